@@ -1,0 +1,4 @@
+pub mod Meaning
+pub mod Images
+pub mod Reach
+pub mod Tests

@@ -1,0 +1,7 @@
+pub mod Faults
+pub mod Bounds
+pub mod Components
+pub mod Codes
+pub mod Shapes
+pub mod Lines
+pub mod Times
