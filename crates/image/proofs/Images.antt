@@ -1,20 +1,20 @@
 -- Images and their bits. Assumes nothing.
-use mathlib.Core.Path.{_≡_, refl, sym, ap, _∙_}
+use mathlib.Core.Path.{_≡_, sym, ap, _∙_}
 use mathlib.Core.Bool.{Bool, true, false, cond, _&&_}
 use mathlib.Core.List.{List, map}
-use mathlib.Core.Logic.{⊎-elim, _⊎_, inl, inr}
-use Prim.Native.Nat.{ℕ, zero, suc, _+_, _-_, _*_, _/_, _%_, _^_, _<_, _≤_}
-use native.Mathlib.Nat.{zero-add, add-comm, add-zero, mul-add, add-mul, add-assoc, mul-assoc, mod-lt, div-one, mod-eq-of-lt, add-suc}
+use mathlib.Core.Logic.{⊎-elim}
+use Prim.Native.Nat.{ℕ, zero, suc, _+_, _*_, _/_, _%_, _^_, _<_, _≤_}
+use native.Mathlib.Nat.{zero-add, add-zero, add-mul, add-assoc, mul-assoc, div-one, mod-eq-of-lt, add-suc}
 use native.Mathlib.Omega.{arith}
 use lib.Dec.{leb, ltb}
-use lib.ListN.{length, getD, set}
-use lib.Pow.{pow-pos, pow-add, shr-shr, split}
+use lib.ListN.{length, getD}
+use lib.Pow.{pow-add}
 use Rattle.std.specs.Iters.{counting}
-use Rattle.std.proofs.shelf.Tests.{cases-lt, cases-eq, and-from, and-left, and-right, le-leb, lt-leb, lt-ltb, le-ltb, cond-true, cond-false}
+use Rattle.std.proofs.shelf.Tests.{cases-lt, and-from, and-left, and-right, le-leb, lt-leb, lt-ltb, le-ltb}
 use Rattle.std.proofs.shelf.Lists.{ext-getD, getD-past}
 use Rattle.std.proofs.shelf.Counted.{length-map-counting, getD-map-counting}
 use Rattle.image.specs.Bits.{bit-of, number, bit, image-of}
-use Rattle.image.proofs.Numbers.{bit-low, bit-high, number-lt, bit-of-number, bit-shr, number-ext, number-bits}
+use Rattle.image.proofs.Numbers.{number-lt, bit-of-number, number-ext, number-bits}
 
 -- ---- a number of n + m bits
 pub number-add : (n m : ℕ) (f : ℕ → Bool) → number (n + m) f ≡ number n f + number m (λ k. f (n + k)) * 2 ^ n

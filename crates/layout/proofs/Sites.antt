@@ -1,12 +1,10 @@
 -- Sites and the indices of their codes in a line.
 use mathlib.Core.Path.{_≡_, refl, sym, ap, _∙_, subst}
 use mathlib.Core.Bool.{Bool, true, false, cond, _&&_}
-use mathlib.Core.Logic.{⊎-elim}
 use Prim.Native.Nat.{ℕ, _+_, _-_, _<_, _≤_}
 use native.Mathlib.Omega.{arith}
 use lib.Dec.{eqb, ltb}
-use Rattle.std.proofs.shelf.Tests.{cases-lt, and-parts, and-from, eqb-true, eq-eqb, ltb-true, lt-ltb}
-use Rattle.std.proofs.shelf.Ways.{tells}
+use Rattle.std.proofs.shelf.Tests.{and-parts, and-from, eqb-true, eq-eqb, ltb-true, lt-ltb}
 use Rattle.samples.specs.declared.component.Component.{Component}
 use Rattle.samples.specs.declared.component.Component.the-variants.{Luma, Cb, Cr, Alpha}
 use Rattle.samples.specs.declared.shape.Shape.{Shape}
@@ -14,6 +12,7 @@ use Rattle.samples.specs.declared.site.Site.{Site}
 use Rattle.samples.specs.Components.{component-number}
 use Rattle.samples.specs.Shapes.{columns, has}
 use Rattle.samples.specs.Lines.{first-of, line-count, index-of, site-of, component-at, site-at}
+use Rattle.samples.proofs.Dividing.{part-here, part-small, split-part}
 use Rattle.layout.specs.Images.{same-site}
 
 -- ---- one site
@@ -55,55 +54,17 @@ pub has-from : (t : Shape) (s : Site) → s .column < columns t (s .component) �
 has-from t s x l =
     and-from (ltb (s .column) (columns t (s .component))) (ltb (s .line .0) (t .size .height)) (lt-ltb (s .column) (columns t (s .component)) x) (lt-ltb (s .line .0) (t .size .height) l)
 
--- ---- four parts one after the other, and which of them a number lies in
-abbrev part : ℕ → ℕ → ℕ → ℕ → Component
-part a b c i = cond (ltb i a) Luma (cond (ltb i (a + b)) Cb (cond (ltb i (a + b + c)) Cr Alpha))
-
-luma-part : (a b c x : ℕ) → x < a → part a b c (0 + x) ≡ Luma
-luma-part a b c x h = grind (arith, tells)
-
-cb-part : (a b c x : ℕ) → x < b → part a b c (a + x) ≡ Cb
-cb-part a b c x h = grind (arith, tells)
-
-cr-part : (a b c x : ℕ) → x < c → part a b c (a + b + x) ≡ Cr
-cr-part a b c x h = grind (arith, tells)
-
-alpha-part : (a b c x : ℕ) → part a b c (a + b + c + x) ≡ Alpha
-alpha-part a b c x = grind (arith, tells)
-
 -- ---- the sites of a line
 module _ (t : Shape) (line : ℕ) where
-  component-here : (c : Component) (x : ℕ) → x < columns t c → component-at t (first-of t c + x) ≡ c
-  component-here Luma x h = luma-part (columns t Luma) (columns t Cb) (columns t Cr) x h
-  component-here Cb x h = cb-part (columns t Luma) (columns t Cb) (columns t Cr) x h
-  component-here Cr x h = cr-part (columns t Luma) (columns t Cb) (columns t Cr) x h
-  component-here Alpha x h = alpha-part (columns t Luma) (columns t Cb) (columns t Cr) x
-
   pub site-here : (c : Component) (x : ℕ) → x < columns t c → site-at t line (first-of t c + x) ≡ site-of c x line
   site-here c x h =
       let i : ℕ = first-of t c + x in
-      ap (λ k. site-of k (i - first-of t k) line) (component-here c x h) ∙ ap (λ z. site-of c z line) (omega arith)
+      ap (λ k. site-of k (i - first-of t k) line) (part-here (columns t) c x h) ∙ ap (λ z. site-of c z line) (omega arith)
 
   -- the site of an index is the only one on the line with it
   pub site-is : (s : Site) → has t s ≡ true → s .line .0 ≡ line → s ≡ site-at t line (index-of t s)
   site-is s h e =
       ap (λ z. site-of (s .component) (s .column) z) e ∙ sym (site-here (s .component) (s .column) (has-parts t s h .0))
-
-  -- an index stands for a component and a column
-  pub split-index : (i : ℕ) → i < line-count t → (c : Component) × (x : ℕ) × (x < columns t c) × (i ≡ first-of t c + x)
-  split-index i h =
-      ⊎-elim
-      (λ (p : i < first-of t Cb). (Luma, i, p, omega arith))
-      (λ (p : first-of t Cb ≤ i).
-      ⊎-elim
-      (λ (q : i < first-of t Cr). (Cb, i - first-of t Cb, omega arith, omega arith))
-      (λ (q : first-of t Cr ≤ i).
-      ⊎-elim
-      (λ (r : i < first-of t Alpha). (Cr, i - first-of t Cr, omega arith, omega arith))
-      (λ (r : first-of t Alpha ≤ i). (Alpha, i - first-of t Alpha, omega arith, omega arith))
-      (cases-lt i (first-of t Alpha)))
-      (cases-lt i (first-of t Cr)))
-      (cases-lt i (first-of t Cb))
 
   pub record Stands (i : ℕ) (s : Site) : Type 0 where
     pub there : has t s ≡ true
@@ -112,7 +73,7 @@ module _ (t : Shape) (line : ℕ) where
 
   pub site-at-stands : (i : ℕ) → i < line-count t → line < t .size .height → Stands i (site-at t line i)
   site-at-stands i h l =
-      let p = split-index i h in
+      let p = split-part (columns t) i h in
       let c : Component = p .0 in
       let x : ℕ = p .1 in
       let e : site-at t line i ≡ site-of c x line = ap (site-at t line) (p .3) ∙ site-here c x (p .2) in
@@ -123,10 +84,4 @@ module _ (t : Shape) (line : ℕ) where
       })
 
 pub index-small : (t : Shape) (s : Site) → has t s ≡ true → index-of t s < line-count t
-index-small t s h = small (s .component) (s .column) (has-parts t s h .0)
-  where
-    small : (c : Component) (x : ℕ) → x < columns t c → first-of t c + x < line-count t
-    small Luma x h = omega arith
-    small Cb x h = omega arith
-    small Cr x h = omega arith
-    small Alpha x h = omega arith
+index-small t s h = part-small (columns t) (s .component) (s .column) (has-parts t s h .0)

@@ -7,7 +7,7 @@ use samples::bounds::Bits;
 use samples::fault::Fault;
 
 // The code that starts at a bit; 0 where there is no start.
-pub fn read_at(image: &[u8], start: Result<u32, Fault>, bits: Bits) -> u16
+pub(crate) fn read_at(image: &[u8], start: Result<u32, Fault>, bits: Bits) -> u16
     ensures { λ r. ⌜ r ≡ read-where (bits .count) start (now (image .entry)) ⌝ }
 {
     match start {
@@ -17,7 +17,7 @@ pub fn read_at(image: &[u8], start: Result<u32, Fault>, bits: Bits) -> u16
 }
 
 // Writes a code from a bit on; nothing where there is no start.
-pub fn write_at(image: &mut [u8], start: Result<u32, Fault>, bits: Bits, code: u16)
+pub(crate) fn write_at(image: &mut [u8], start: Result<u32, Fault>, bits: Bits, code: u16)
     ensures { λ _. ⌜ now (image .exit) ≡ written-where (bits .count) start code (now (image .entry)) ⌝ }
 {
     if let Ok(bit) = start {

@@ -1,23 +1,18 @@
 -- The codes of one line: all of Y', then Cb, Cr, A, each by column.
-use mathlib.Core.Bool.{cond}
 use Prim.Native.Nat.{ℕ, _+_, _-_}
-use lib.Dec.{ltb}
 use Rattle.samples.specs.declared.component.Component.{Component}
-use Rattle.samples.specs.declared.component.Component.the-variants.{Luma, Cb, Cr, Alpha}
 use Rattle.samples.specs.declared.shape.Shape.{Shape}
 use Rattle.samples.specs.declared.site.Site.{Site}
+use Rattle.samples.specs.Parts.{before, whole, part-at}
 use Rattle.samples.specs.Shapes.{columns}
 
 -- where a component's codes begin
 abbrev pub first-of : Shape → Component → ℕ
-first-of t Luma = 0
-first-of t Cb = columns t Luma
-first-of t Cr = columns t Luma + columns t Cb
-first-of t Alpha = columns t Luma + columns t Cb + columns t Cr
+first-of t c = before (columns t) c
 
 -- how many codes a line has
 abbrev pub line-count : Shape → ℕ
-line-count t = first-of t Alpha + columns t Alpha
+line-count t = whole (columns t)
 
 -- the index of a site's code: the first of its component, plus its column
 abbrev pub index-of : Shape → Site → ℕ
@@ -28,7 +23,7 @@ site-of c x l = record { component = c; column = x; line = record { 0 = l } }
 
 -- the component of the code at an index
 abbrev pub component-at : Shape → ℕ → Component
-component-at t i = cond (ltb i (first-of t Cb)) Luma (cond (ltb i (first-of t Cr)) Cb (cond (ltb i (first-of t Alpha)) Cr Alpha))
+component-at t i = part-at (columns t) i
 
 -- the site of the code at an index of picture line l
 abbrev pub site-at : Shape → ℕ → ℕ → Site

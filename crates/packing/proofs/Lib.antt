@@ -1,0 +1,5 @@
+pub mod Naming
+pub mod Table
+pub mod Six
+pub mod Groups
+pub mod Holding
