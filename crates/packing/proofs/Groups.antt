@@ -22,9 +22,10 @@ use Rattle.samples.proofs.Dividing.{part-here, part-holds}
 use Rattle.layout.specs.Meaning.{Meaning, Lawful}
 use Rattle.layout.proofs.Sites.{has-parts}
 use Rattle.layout.proofs.Following.{unowned}
-use Rattle.packing.specs.declared.format.Figures.{Figures}
-use Rattle.packing.specs.Packing.{Packing, Proper, figures-of, runs-of, runs, start-in, holder, whole-pairs, shape-of, start-of, if-has, site-in, owner-of, packed}
-use Rattle.packing.proofs.Table.{run-within, run-held, held-run}
+use Rattle.formats.specs.declared.format.Figures.{Figures}
+use Rattle.formats.specs.Packing.{Packing, Proper, figures-of, runs-of, runs, start-in, holder, whole-pairs}
+use Rattle.packing.specs.Packed.{shape-of, start-of, if-has, site-in, owner-of, packed}
+use Rattle.formats.proofs.Table.{run-within, run-held, held-run}
 
 -- A number in three digits: line, group and bit, where a line has r bits and a group s, and g groups fit into a line.
 module _ (r s g : ℕ) (fit : g * s ≤ r) where

@@ -11,8 +11,8 @@ use Rattle.std.specs.declared.option.Option.the-variants.{Some, None}
 use Rattle.std.proofs.shelf.Tests.{cond-true, cond-false}
 use Rattle.samples.specs.declared.component.Component.the-variants.{Alpha}
 use Rattle.samples.specs.Parts.{before, whole}
-use Rattle.packing.specs.declared.format.Figures.{Figures}
-use Rattle.packing.specs.Packing.{Packing, Proper, figures-of, runs-of, covers, holder-from}
+use Rattle.formats.specs.declared.format.Figures.{Figures}
+use Rattle.formats.specs.Packing.{Packing, Proper, figures-of, runs-of, covers, holder-from}
 
 module _ (n : ℕ) (ss : List ℕ) (w i : ℕ) where
   from-here : i < length ss → holder-from n (drop i ss) w i ≡ cond (covers n w (getD ss i 0)) (Some i) (holder-from n (drop (i + 1) ss) w (i + 1))

@@ -1,6 +1,2 @@
-pub mod Wide
-pub mod Packing
-pub mod Formats
-pub mod Names
-pub mod Made
+pub mod Packed
 pub mod Rows

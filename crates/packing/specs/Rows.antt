@@ -10,7 +10,7 @@ use Rattle.samples.specs.declared.fault.Rule.the-variants.{NoSite}
 use Rattle.samples.specs.declared.lines.AddressLine.{AddressLine}
 use Rattle.samples.specs.declared.lines.PictureLine.{PictureLine}
 use Rattle.samples.specs.Faults.{refusal}
-use Rattle.packing.specs.Packing.{Packing}
+use Rattle.formats.specs.Packing.{Packing}
 
 -- rows follow without gaps: the first byte of a row, or refusal 12
 abbrev pub row-at : Packing → Size → AddressLine → Result ℕ Fault

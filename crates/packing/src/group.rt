@@ -2,9 +2,9 @@
 ghost use mathlib.Core.Path.{_≡_};
 ghost use Prim.Native.Nat.{_≤_};
 ghost use Rattle.samples.specs.Parts.{before, part-at};
-ghost use Rattle.packing.specs.Packing.{runs-of, covers, holder};
-use crate::format::Figures;
-use crate::format::Format;
+ghost use Rattle.formats.specs.Packing.{runs-of, covers, holder};
+use formats::format::Figures;
+use formats::format::Format;
 use samples::component::Component;
 use samples::shape::Chroma;
 

@@ -1,9 +1,9 @@
 // A packing of any type is a layout: rows of groups of runs.
 ghost use mathlib.Core.Path.{_≡_};
 ghost use Prim.Native.Nat.{_*_, _<_, _≤_};
-ghost use Rattle.packing.specs.Packing.{packed, shape-of};
+ghost use Rattle.packing.specs.Packed.{packed, shape-of};
 ghost use Rattle.packing.specs.Rows.{row-at};
-use crate::format::Format;
+use formats::format::Format;
 use crate::group::first_run;
 use crate::group::holder_of;
 use crate::group::run_component;

@@ -1,6 +1,6 @@
 use mathlib.Core.Path.{_≡_}
 use lib.ListN.{drop}
-use Rattle.packing.specs.Packing.{holder-from, holder}
+use Rattle.formats.specs.Packing.{holder-from, holder}
 use Rattle.packing.proofs.group.holder_of.Given as given
 
 abbrev pub Inv-loop-number : given.InvT-loop-number

@@ -3,7 +3,7 @@ use mathlib.Core.Bool.{true}
 use Prim.Native.Nat.{_+_, _*_, _/_, _^_, _<_}
 use native.Mathlib.Omega.{arith}
 use Rattle.samples.specs.Shapes.{has}
-use Rattle.packing.specs.Packing.{shape-of}
+use Rattle.packing.specs.Packed.{shape-of}
 use Rattle.packing.proofs.Groups.{start-fits, start-sum}
 use Rattle.packing.proofs.packed.PackedLayout.locate.Given as given
 use Rattle.packing.proofs.packed.PackedLayout.locate.Needs as need

@@ -2,7 +2,7 @@ use mathlib.Core.Path.{_≡_, sym, ap, _∙_}
 use Prim.Native.Nat.{_*_, _%_}
 use native.Mathlib.Omega.{arith}
 use Rattle.std.specs.declared.option.Option.the-variants.{Some}
-use Rattle.packing.specs.Packing.{holder}
+use Rattle.formats.specs.Packing.{holder}
 use Rattle.packing.proofs.Groups.{column-fits, held-number}
 use Rattle.packing.proofs.packed.PackedLayout.owner.Needs as need
 

@@ -1,6 +1,0 @@
-use mathlib.Core.Path.{refl}
-use Rattle.samples.proofs.Bounded.{same-bits}
-use Rattle.packing.proofs.widths.ten_bits.Needs as need
-
-pub returns : need.returns
-returns c = same-bits _ _ refl
