@@ -1,13 +1,10 @@
 // The layout interface.
 ghost use mathlib.Core.Path.{_≡_};
 ghost use Prim.Native.Nat.{_+_, _*_};
-ghost use lib.ListN.{length};
-ghost use Rattle.std.specs.declared.result.Result.the-variants.{Ok, Err};
 ghost use Rattle.samples.specs.declared.shape.Shape.{Shape as TheShape};
 ghost use Rattle.image.specs.Bits.{number};
 ghost use Rattle.layout.specs.Meaning.{Meaning, Lawful, located};
-ghost use Rattle.layout.specs.Images.{rewritten, laid, line-held, wiped};
-ghost use Rattle.layout.specs.Tests.{sized, line-tests};
+ghost use Rattle.layout.specs.Tests.{wipe-answer, wipe-image, line-answer, line-read, line-written};
 use crate::reach::read_at;
 use crate::reach::write_at;
 use samples::fault::Fault;
@@ -71,8 +68,8 @@ pub trait Layout: Shaped {
 
     // An image with no codes: each fixed bit at its value, every other bit 0.
     fn wipe(&self, image: &mut [u8]) -> Result<(), Fault>
-        ensures answer { λ r. ⌜ r ≡ sized (meaning (now (self .entry))) (now (image .entry)) Err (Ok tt) ⌝ }
-        ensures image { λ _. ⌜ now (image .exit) ≡ sized (meaning (now (self .entry))) (now (image .entry)) (λ _. now (image .entry)) (wiped (meaning (now (self .entry)))) ⌝ }
+        ensures answer { λ r. ⌜ r ≡ wipe-answer (meaning (now (self .entry))) (now (image .entry)) ⌝ }
+        ensures image { λ _. ⌜ now (image .exit) ≡ wipe-image (meaning (now (self .entry))) (now (image .entry)) ⌝ }
     {
         if image.len() != self.length() as usize {
             return Err(Fault::of(Rule::ImageLength, 0));
@@ -85,8 +82,8 @@ pub trait Layout: Shaped {
 
     // Reads the codes of a picture line, all of Y', then Cb, Cr, A.
     fn read_line(&self, image: &[u8], line: PictureLine, codes: &mut [u16]) -> Result<(), Fault>
-        ensures answer { λ r. ⌜ r ≡ line-tests (meaning (now (self .entry))) (now (image .entry)) (line .0) (length (now (codes .entry))) Err (Ok tt) ⌝ }
-        ensures codes { λ _. ⌜ now (codes .exit) ≡ line-tests (meaning (now (self .entry))) (now (image .entry)) (line .0) (length (now (codes .entry))) (λ _. now (codes .entry)) (line-held (meaning (now (self .entry))) (now (image .entry)) (line .0)) ⌝ }
+        ensures answer { λ r. ⌜ r ≡ line-answer (meaning (now (self .entry))) (now (image .entry)) (line .0) (now (codes .entry)) ⌝ }
+        ensures codes { λ _. ⌜ now (codes .exit) ≡ line-read (meaning (now (self .entry))) (now (image .entry)) (line .0) (now (codes .entry)) ⌝ }
     {
         if image.len() != self.length() as usize {
             return Err(Fault::of(Rule::ImageLength, 0));
@@ -107,8 +104,8 @@ pub trait Layout: Shaped {
 
     // Writes the codes of a picture line: of each code the low n bits, and no bit beside their runs.
     fn write_line(&self, image: &mut [u8], line: PictureLine, codes: &[u16]) -> Result<(), Fault>
-        ensures answer { λ r. ⌜ r ≡ line-tests (meaning (now (self .entry))) (now (image .entry)) (line .0) (length (now (codes .entry))) Err (Ok tt) ⌝ }
-        ensures image { λ _. ⌜ now (image .exit) ≡ line-tests (meaning (now (self .entry))) (now (image .entry)) (line .0) (length (now (codes .entry))) (λ _. now (image .entry)) (rewritten (meaning (now (self .entry))) (laid (meaning (now (self .entry)) .shape) (line .0) (now (codes .entry))) (now (image .entry))) ⌝ }
+        ensures answer { λ r. ⌜ r ≡ line-answer (meaning (now (self .entry))) (now (image .entry)) (line .0) (now (codes .entry)) ⌝ }
+        ensures image { λ _. ⌜ now (image .exit) ≡ line-written (meaning (now (self .entry))) (now (image .entry)) (line .0) (now (codes .entry)) ⌝ }
     {
         if image.len() != self.length() as usize {
             return Err(Fault::of(Rule::ImageLength, 0));

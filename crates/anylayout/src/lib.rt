@@ -1,0 +1,3 @@
+// Layouts that are known only as the program runs.
+pub mod make;
+pub mod packings;
