@@ -3,26 +3,26 @@ ghost use mathlib.Core.Path.{_≡_};
 ghost use Rattle.anylayout.specs.Packings.{kind-of, packing-meaning, row-bytes-of};
 use formats::kind::Kind;
 use formats::types::TwoVuy;
+use formats::types::TwoVuyFormat;
 use formats::types::V210;
+use formats::types::V210Format;
 use formats::types::V308;
+use formats::types::V308Format;
 use formats::types::V408;
+use formats::types::V408Format;
 use formats::types::V410;
+use formats::types::V410Format;
+use formats::v216::V216Format;
 use formats::wide::V216;
 use layout::interface::Layout;
 use layout::interface::Shaped;
 use packing::packed::Packed;
+use packing::packed::PackedLayout;
+use packing::packed::PackedShaped;
 use samples::fault::Fault;
 use samples::lines::PictureLine;
 use samples::shape::Shape;
 use samples::site::Site;
-use formats::types::TwoVuyFormat;
-use formats::types::V210Format;
-use formats::types::V308Format;
-use formats::types::V408Format;
-use formats::types::V410Format;
-use formats::v216::V216Format;
-use packing::packed::PackedLayout;
-use packing::packed::PackedShaped;
 
 // A packing of one of the six types.
 #[derive(Clone, Copy)]
