@@ -7,3 +7,4 @@ pub mod lines;
 pub mod make;
 pub mod shape;
 pub mod site;
+pub mod text;

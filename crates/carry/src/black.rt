@@ -1,0 +1,39 @@
+// A black frame: every site at rest.
+ghost use mathlib.Core.Path.{_≡_};
+ghost use mathlib.Core.List.{map};
+ghost use lib.ListN.{length};
+ghost use Rattle.std.specs.Iters.{counting};
+ghost use Rattle.carry.specs.Black.{rest-at, level-of};
+use image::read_code;
+use layout::interface::Layout;
+use layout::interface::shape_of;
+use samples::fault::Fault;
+use samples::lines::PictureLine;
+use samples::shape::Shape;
+use samples::site::Site;
+
+// The codes of a line at rest.
+pub(crate) fn rest_line(shape: Shape, codes: &mut [u16])
+    ensures { λ _. ⌜ now (codes .exit) ≡ map (rest-at shape) (counting 0 (length (now (codes .entry)))) ⌝ }
+{
+    for i in 0..codes.len() {
+        let site = shape.site_at(PictureLine(0), i as u32);
+        codes[i] = site.component.rest(shape.bits);
+    }
+}
+
+// Writes one line of codes to every picture line.
+pub(crate) fn blacken<L: Layout>(layout: &L, image: &mut [u8], codes: &[u16]) -> Result<(), Fault> {
+    for line in 0..shape_of(layout).size.height {
+        layout.write_line(image, PictureLine(line), codes)?;
+    }
+    Ok(())
+}
+
+// The code of a site in an image; refused by 12 where the shape lacks the site.
+pub(crate) fn level<L: Layout>(layout: &L, image: &[u8], site: Site) -> Result<u16, Fault>
+    ensures { λ r. ⌜ r ≡ level-of (meaning (now (layout .entry))) (now (image .entry)) site ⌝ }
+{
+    let start = layout.locate(site)?;
+    Ok(read_code(image, start, shape_of(layout).bits.count))
+}
