@@ -16,6 +16,7 @@ use samples::component::Component;
 use samples::fault::FaultError;
 use show::Recorder;
 use std::error::AnyError;
+use samples::text::FaultError as _;
 
 // The picture of a recorder for 525 lines: bottom field first, stored field by field.
 const WIDTH: u32 = 720;

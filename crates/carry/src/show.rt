@@ -12,6 +12,8 @@ use samples::shape::Shape;
 use samples::shape::TimeKind;
 use samples::site::Site;
 use std::error::AnyError;
+use samples::text::FaultDisplay;
+use samples::text::FaultError as _;
 
 // A recorder's layout: a packing under its line order.
 pub(crate) type Recorder = Ordered<AnyPacking>;
