@@ -1,1 +1,1 @@
-pub mod Black
+pub mod Rest

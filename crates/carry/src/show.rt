@@ -1,22 +1,16 @@
 // What the program prints.
-use crate::black::level;
-use anylayout::packings::AnyPacking;
+use crate::level::level;
 use layout::interface::Layout;
 use layout::interface::shape_of;
-use order::layer::Ordered;
 use samples::component::Component;
-use samples::fault::FaultError;
 use samples::lines::PictureLine;
 use samples::shape::Chroma;
 use samples::shape::Shape;
 use samples::shape::TimeKind;
 use samples::site::Site;
-use std::error::AnyError;
 use samples::text::FaultDisplay;
-use samples::text::FaultError as _;
-
-// A recorder's layout: a packing under its line order.
-pub(crate) type Recorder = Ordered<AnyPacking>;
+use samples::text::FaultError;
+use std::error::AnyError;
 
 fn site_at(component: Component, column: u32, line: u32) -> Site {
     Site {
@@ -50,7 +44,10 @@ pub(crate) fn shape(rt: &LibcRuntime, shape: Shape) -> Result<(), AnyError> {
         TimeKind::BottomFirst => "bottom field first",
     };
     let count = shape.line_count();
-    println!(rt, "3. shape: {width} by {height}, {chroma}, {alpha}, {bits} bits, {time}; {count} codes a line")?;
+    println!(
+        rt,
+        "3. shape: {width} by {height}, {chroma}, {alpha}, {bits} bits, {time}; {count} codes a line"
+    )?;
     Ok(())
 }
 
@@ -59,7 +56,10 @@ fn start<L: Layout>(rt: &LibcRuntime, layout: &L, site: Site) -> Result<(), AnyE
     let column = site.column;
     let line = site.line.0;
     match layout.locate(site) {
-        Ok(bit) => println!(rt, "   {component} column {column} line {line} starts at bit {bit}")?,
+        Ok(bit) => println!(
+            rt,
+            "   {component} column {column} line {line} starts at bit {bit}"
+        )?,
         Err(fault) => println!(rt, "   {component} column {column} line {line}: {fault}")?,
     }
     Ok(())
@@ -75,7 +75,11 @@ pub(crate) fn ends<L: Layout>(
     let columns = shape.columns(component);
     start(rt, layout, site_at(component, 0, 0))?;
     if columns > 0 {
-        start(rt, layout, site_at(component, columns - 1, shape.size.height - 1))?;
+        start(
+            rt,
+            layout,
+            site_at(component, columns - 1, shape.size.height - 1),
+        )?;
     }
     Ok(())
 }
@@ -112,7 +116,10 @@ fn code<L: Layout>(rt: &LibcRuntime, layout: &L, image: &[u8], site: Site) -> Re
     let column = site.column;
     let line = site.line.0;
     let code = level(layout, image, site)?;
-    println!(rt, "   {component} column {column} line {line} holds {code}")?;
+    println!(
+        rt,
+        "   {component} column {column} line {line} holds {code}"
+    )?;
     Ok(())
 }
 

@@ -1,9 +1,11 @@
 // A black frame: every site at rest.
 ghost use mathlib.Core.Path.{_≡_};
 ghost use mathlib.Core.List.{map};
-ghost use lib.ListN.{length};
 ghost use Rattle.std.specs.Iters.{counting};
-ghost use Rattle.carry.specs.Black.{rest-at, level-of};
+ghost use Rattle.std.specs.Of.Vec.{vec-items};
+ghost use Rattle.std.specs.Vec.{made};
+ghost use Rattle.samples.specs.Lines.{line-count};
+ghost use Rattle.carry.specs.Rest.{rest-at, level-of};
 use image::read_code;
 use layout::interface::Layout;
 use layout::interface::shape_of;
@@ -11,15 +13,19 @@ use samples::fault::Fault;
 use samples::lines::PictureLine;
 use samples::shape::Shape;
 use samples::site::Site;
+use std::alloc::AllocError;
+use std::alloc::Global;
 
 // The codes of a line at rest.
-pub(crate) fn rest_line(shape: Shape, codes: &mut [u16])
-    ensures { λ _. ⌜ now (codes .exit) ≡ map (rest-at shape) (counting 0 (length (now (codes .entry)))) ⌝ }
+pub(crate) fn rest_line(heap: Global, shape: Shape) -> Result<Vec<u16>, AllocError>
+    ensures { λ r. ⌜ made r (λ v. vec-items v ≡ map (rest-at shape) (counting 0 (line-count shape))) ⌝ }
 {
-    for i in 0..codes.len() {
-        let site = shape.site_at(PictureLine(0), i as u32);
-        codes[i] = site.component.rest(shape.bits);
+    let mut codes = Vec::new(heap);
+    for i in 0..shape.line_count() {
+        let site = shape.site_at(PictureLine(0), i);
+        codes.push(site.component.rest(shape.bits))?;
     }
+    Ok(codes)
 }
 
 // Writes one line of codes to every picture line.
