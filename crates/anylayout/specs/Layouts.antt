@@ -4,7 +4,7 @@ use Rattle.order.specs.Over.{over}
 use Rattle.planes.specs.Words.{plane-words}
 use Rattle.anylayout.specs.declared.layouts.AnyLayout.{AnyLayout}
 use Rattle.anylayout.specs.declared.layouts.AnyLayout.the-variants.{Packing, Planes, OrderedPacking, OrderedPlanes}
-use Rattle.anylayout.specs.Packings.{packing-meaning}
+use Rattle.anypacking.specs.Packings.{packing-meaning}
 
 abbrev pub layout-meaning : AnyLayout → Meaning
 layout-meaning (Packing p) = packing-meaning p

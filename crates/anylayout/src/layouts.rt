@@ -1,8 +1,8 @@
 // One layout for whatever is known only as the program runs: a packing or plane words, with or without the line order layer.
 ghost use Rattle.anylayout.specs.Layouts.{layout-meaning};
-use crate::packings::AnyPacking;
-use crate::packings::AnyPackingLayout;
-use crate::packings::AnyPackingShaped;
+use anypacking::packings::AnyPacking;
+use anypacking::packings::AnyPackingLayout;
+use anypacking::packings::AnyPackingShaped;
 use layout::interface::Layout;
 use layout::interface::Shaped;
 use order::layer::Ordered;

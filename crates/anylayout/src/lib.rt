@@ -1,4 +1,2 @@
-// Layouts that are known only as the program runs.
+// A layout that is known only as the program runs.
 pub mod layouts;
-pub mod make;
-pub mod packings;

@@ -2,9 +2,9 @@
 mod level;
 mod show;
 
-use anylayout::packings::AnyPacking;
-use anylayout::packings::AnyPackingLayout;
-use anylayout::packings::AnyPackingShaped;
+use anypacking::packings::AnyPacking;
+use anypacking::packings::AnyPackingLayout;
+use anypacking::packings::AnyPackingShaped;
 use layout::interface::Layout;
 use layout::interface::Shaped;
 use level::blacken;

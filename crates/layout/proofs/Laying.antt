@@ -16,15 +16,10 @@ use Rattle.samples.specs.declared.site.Site.{Site}
 use Rattle.samples.specs.Shapes.{has}
 use Rattle.samples.specs.Lines.{line-count, index-of, site-at}
 use Rattle.layout.specs.Meaning.{Meaning, Lawful, width, located}
-use Rattle.layout.specs.Images.{rewritten, same-site, only, laid}
+use Rattle.layout.specs.Images.{rewritten, same-site, only, laid, laid-below}
 use Rattle.layout.specs.Reach.{written-where}
 use Rattle.layout.proofs.Sites.{same-site-true, same-site-refl, Stands, site-is, site-at-stands, index-small}
 use Rattle.layout.proofs.Writing.{later, rewritten-ext, rewritten-none, rewritten-twice, located-written}
-
--- the first n codes of a line, each at its site
-abbrev pub laid-below : Shape → ℕ → List ℕ → ℕ → Site → Option ℕ
-laid-below t line codes n s =
-    cond (eqb (s .line .0) line && ltb (index-of t s) n) (Some (getD codes (index-of t s) 0)) None
 
 module _ (t : Shape) (line : ℕ) (codes : List ℕ) where
   -- one code more of a line

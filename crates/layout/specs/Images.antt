@@ -2,7 +2,7 @@
 use mathlib.Core.Bool.{Bool, cond, _&&_}
 use mathlib.Core.List.{List, map}
 use Prim.Native.Nat.{ℕ, _-_}
-use lib.Dec.{eqb}
+use lib.Dec.{eqb, ltb}
 use lib.ListN.{length, getD}
 use Rattle.std.specs.declared.option.Option.{Option}
 use Rattle.std.specs.declared.option.Option.the-variants.{Some, None}
@@ -54,3 +54,8 @@ only s v z = cond (same-site s z) (Some v) None
 -- the codes of picture line l, each at its site
 abbrev pub laid : Shape → ℕ → List ℕ → Site → Option ℕ
 laid t l codes s = cond (eqb (s .line .0) l) (Some (getD codes (index-of t s) 0)) None
+
+-- its first n codes alone
+abbrev pub laid-below : Shape → ℕ → List ℕ → ℕ → Site → Option ℕ
+laid-below t l codes n s =
+    cond (eqb (s .line .0) l && ltb (index-of t s) n) (Some (getD codes (index-of t s) 0)) None

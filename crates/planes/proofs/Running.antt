@@ -16,10 +16,10 @@ use Rattle.samples.specs.Shapes.{columns, has}
 use Rattle.samples.specs.Lines.{first-of, line-count, site-of, site-at}
 use Rattle.image.specs.Bits.{code-at, width, written}
 use Rattle.layout.specs.Meaning.{Meaning, located}
-use Rattle.layout.specs.Images.{held, rewritten}
+use Rattle.layout.specs.Images.{held, rewritten, laid-below}
 use Rattle.layout.specs.Reach.{written-where}
 use Rattle.layout.proofs.Sites.{has-from, site-here}
-use Rattle.layout.proofs.Laying.{laid-below, line-step}
+use Rattle.layout.proofs.Laying.{line-step}
 use Rattle.planes.specs.Words.{offset, word-start, plane-words}
 use Rattle.planes.proofs.Parts.{fit-all, words-le}
 use Rattle.planes.proofs.Lawful.{planes-lawful}

@@ -1,6 +1,6 @@
 // Blank images of two pixels, byte for byte.
-use anylayout::packings::AnyPacking;
-use anylayout::packings::AnyPackingLayout;
+use anypacking::packings::AnyPacking;
+use anypacking::packings::AnyPackingLayout;
 use layout::interface::Layout;
 use samples::fault::FaultDebug;
 use samples::lines::PictureLine;

@@ -1,6 +1,6 @@
 // Refusals, and which of two causes comes first.
-use anylayout::packings::AnyPacking;
-use anylayout::packings::AnyPackingLayout;
+use anypacking::packings::AnyPacking;
+use anypacking::packings::AnyPackingLayout;
 use layout::interface::Layout;
 use samples::fault::Fault;
 use samples::fault::FaultDebug;

@@ -1,6 +1,6 @@
 // Rows, lengths and starts of all six packings, at three lines and at widths about the group and row boundaries.
-use anylayout::packings::AnyPacking;
-use anylayout::packings::AnyPackingLayout;
+use anypacking::packings::AnyPacking;
+use anypacking::packings::AnyPackingLayout;
 use layout::interface::Layout;
 use samples::component::Component;
 use samples::fault::Fault;

@@ -5,8 +5,7 @@ use native.Mathlib.Nat.{add-zero}
 use native.Mathlib.Omega.{arith}
 use lib.ListN.{length, getD}
 use Rattle.image.specs.Bits.{written, width}
-use Rattle.layout.specs.Images.{rewritten}
-use Rattle.layout.proofs.Laying.{laid-below}
+use Rattle.layout.specs.Images.{rewritten, laid-below}
 use Rattle.planes.specs.Words.{plane-words}
 use Rattle.planes.proofs.Running.{run-written}
 use Rattle.planes.proofs.Planes.write_plane.Needs as need

@@ -2,8 +2,8 @@ use Rattle.order.proofs.Layered.{over-lawful}
 use Rattle.planes.specs.Words.{plane-words}
 use Rattle.planes.proofs.Lawful.{planes-lawful}
 use Rattle.anylayout.specs.declared.layouts.AnyLayout.the-variants.{Packing, Planes, OrderedPacking, OrderedPlanes}
-use Rattle.anylayout.specs.Packings.{packing-meaning}
-use Rattle.anylayout.proofs.Kept.{packing-lawful}
+use Rattle.anypacking.specs.Packings.{packing-meaning}
+use Rattle.anypacking.proofs.Kept.{packing-lawful}
 use Rattle.anylayout.proofs.layouts.AnyLayoutLayout.the-impl.Needs as need
 
 pub lawful-law : need.lawful-law

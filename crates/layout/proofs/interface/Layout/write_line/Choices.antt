@@ -1,6 +1,5 @@
 use mathlib.Core.Path.{_≡_}
-use Rattle.layout.specs.Images.{rewritten}
-use Rattle.layout.proofs.Laying.{laid-below}
+use Rattle.layout.specs.Images.{rewritten, laid-below}
 use Rattle.layout.proofs.interface.Layout.write_line.Given as given
 
 abbrev pub Inv-loop-i : given.InvT-loop-i

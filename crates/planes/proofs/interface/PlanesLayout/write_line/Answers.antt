@@ -10,8 +10,8 @@ use Rattle.image.proofs.Images.{Bytes}
 use Rattle.samples.specs.declared.component.Component.the-variants.{Luma}
 use Rattle.samples.specs.Shapes.{columns}
 use Rattle.samples.specs.Lines.{line-count}
-use Rattle.layout.specs.Images.{rewritten, laid}
-use Rattle.layout.proofs.Laying.{laid-below, line-begun, line-ended}
+use Rattle.layout.specs.Images.{rewritten, laid, laid-below}
+use Rattle.layout.proofs.Laying.{line-begun, line-ended}
 use Rattle.layout.proofs.Testing.{line-passed}
 use Rattle.planes.specs.Words.{plane-words}
 use Rattle.planes.proofs.Lawful.{planes-lawful}

@@ -1,6 +1,6 @@
 // Making a packing of plain numbers.
 ghost use mathlib.Core.Path.{_≡_};
-ghost use Rattle.anylayout.specs.Packings.{plain-packing, packing-made, packing-named};
+ghost use Rattle.anypacking.specs.Packings.{plain-packing, packing-made, packing-named};
 use crate::packings::AnyPacking;
 use formats::kind::Kind;
 use formats::types::TwoVuy;

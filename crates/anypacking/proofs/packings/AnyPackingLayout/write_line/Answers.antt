@@ -3,8 +3,8 @@ use mathlib.Core.List.{List}
 use Prim.Native.Nat.{ℕ}
 use Rattle.layout.specs.Meaning.{Meaning}
 use Rattle.layout.specs.Tests.{line-answer, line-written}
-use Rattle.anylayout.specs.Packings.{packing-meaning}
-use Rattle.anylayout.proofs.packings.AnyPackingLayout.write_line.Needs as need
+use Rattle.anypacking.specs.Packings.{packing-meaning}
+use Rattle.anypacking.proofs.packings.AnyPackingLayout.write_line.Needs as need
 
 pub returns-in-TwoVuy : need.returns-in-TwoVuy
 returns-in-TwoVuy c =

@@ -14,8 +14,8 @@ use Rattle.formats.specs.declared.kind.Kind.the-variants as kind
 use Rattle.formats.specs.Formats.{takes, p-2vuy, p-v308, p-v408, p-v216, p-v410, p-v210}
 use Rattle.formats.specs.Names.{kind-named}
 use Rattle.packing.specs.Packed.{packed}
-use Rattle.anylayout.specs.declared.packings.AnyPacking.{AnyPacking}
-use Rattle.anylayout.specs.declared.packings.AnyPacking.the-variants.{TwoVuy, V308, V408, V216, V410, V210}
+use Rattle.anypacking.specs.declared.packings.AnyPacking.{AnyPacking}
+use Rattle.anypacking.specs.declared.packings.AnyPacking.the-variants.{TwoVuy, V308, V408, V216, V410, V210}
 
 abbrev pub packing-meaning : AnyPacking → Meaning
 packing-meaning (TwoVuy p) = packed p-2vuy (p .size)

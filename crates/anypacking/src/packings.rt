@@ -1,6 +1,6 @@
 // A packing whose type is known only as the program runs. Each call chooses once, and then goes by the text of that type.
 ghost use mathlib.Core.Path.{_≡_};
-ghost use Rattle.anylayout.specs.Packings.{kind-of, packing-meaning, row-bytes-of};
+ghost use Rattle.anypacking.specs.Packings.{kind-of, packing-meaning, row-bytes-of};
 use formats::kind::Kind;
 use formats::types::TwoVuy;
 use formats::types::TwoVuyFormat;

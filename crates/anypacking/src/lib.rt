@@ -1,0 +1,3 @@
+// A packing whose type is known only as the program runs.
+pub mod make;
+pub mod packings;
