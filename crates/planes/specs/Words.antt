@@ -5,10 +5,10 @@ use lib.Dec.{ltb}
 use Rattle.std.specs.declared.option.Option.{Option}
 use Rattle.std.specs.declared.option.Option.the-variants.{Some, None}
 use Rattle.samples.specs.declared.component.Component.{Component}
-use Rattle.samples.specs.declared.component.Component.the-variants.{Luma, Cb, Cr, Alpha}
 use Rattle.samples.specs.declared.shape.Shape.{Shape}
 use Rattle.samples.specs.declared.site.Site.{Site}
 use Rattle.samples.specs.Components.{component-number}
+use Rattle.samples.specs.Parts.{before, whole, part-at}
 use Rattle.samples.specs.Shapes.{columns}
 use Rattle.samples.specs.Lines.{site-of}
 use Rattle.image.specs.Bits.{bit-of}
@@ -18,24 +18,16 @@ use Rattle.layout.specs.Meaning.{Meaning}
 abbrev pub plane : Shape → Component → ℕ
 plane t c = columns t c * t .size .height
 
--- how many words stand before those of a component
+-- how many words stand before those of a component, and how many there are
 abbrev pub offset : Shape → Component → ℕ
-offset t Luma = 0
-offset t Cb = plane t Luma
-offset t Cr = plane t Luma + plane t Cb
-offset t Alpha = plane t Luma + plane t Cb + plane t Cr
+offset t c = before (plane t) c
 
--- how many words there are
 abbrev pub words : Shape → ℕ
-words t = offset t Alpha + plane t Alpha
+words t = whole (plane t)
 
 -- the component of word q; past the words, none
 abbrev pub plane-of : Shape → ℕ → Option Component
-plane-of t q =
-    cond (ltb q (offset t Cb)) (Some Luma)
-    (cond (ltb q (offset t Cr)) (Some Cb)
-    (cond (ltb q (offset t Alpha)) (Some Cr)
-    (cond (ltb q (words t)) (Some Alpha) None)))
+plane-of t q = cond (ltb q (words t)) (Some (part-at (plane t) q)) None
 
 -- the word of a site, in bits: a code stands in the lowest bits of its word
 abbrev pub word-start : Shape → Site → ℕ

@@ -43,16 +43,17 @@ impl Planes {
     pub(crate) fn plane_of(self, word: u32) -> Option<Component>
         ensures { λ r. ⌜ r ≡ plane-of (self .shape) word ⌝ }
     {
+        if word >= self.words() {
+            return None;
+        }
         if word < self.offset(Component::Cb) {
             Some(Component::Luma)
         } else if word < self.offset(Component::Cr) {
             Some(Component::Cb)
         } else if word < self.offset(Component::Alpha) {
             Some(Component::Cr)
-        } else if word < self.words() {
-            Some(Component::Alpha)
         } else {
-            None
+            Some(Component::Alpha)
         }
     }
 

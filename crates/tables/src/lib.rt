@@ -2,6 +2,8 @@
 #[cfg(test)]
 mod blank;
 #[cfg(test)]
+mod layers;
+#[cfg(test)]
 mod refusals;
 #[cfg(test)]
 mod starts;
