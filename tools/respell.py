@@ -11,7 +11,7 @@ ghost parts of .rt files are written; functions, strings and exported names stay
 import os
 import re
 
-DEFINED = re.compile(r"^\s*(?:abbrev |unfoldable |pub |data |record )*([^\s:(){}\[\].,;@\"]+) :(.*)$")
+DEFINED = re.compile(r"^\s*(?:abbrev |unfoldable |pub |data |record )*([^\s:(){}\[\].,;@\"]+)(?: \([^()]*\))* :(.*)$")
 TOKEN = re.compile(r"[^\s:(){}\[\].,;=@\"λ]+")
 GHOST = re.compile(r"^\s*(?:\||(?:pub )?(?:ghost |requires\b|ensures\b))")
 

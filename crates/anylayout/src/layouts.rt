@@ -9,10 +9,10 @@ ghost use Rattle.anypacking.specs.Kept.{packing_lawful};
 ghost use Rattle.std.proofs.Common.{rules};
 
 use anypacking::packings::AnyPacking;
-use faults::Fault;
 use layout::interface::{Layout, Shaped};
 use order::layer::Ordered;
 use planes::Planes;
+use samples::fault::Fault;
 use samples::lines::PictureLine;
 use samples::shape::Shape;
 use samples::site::Site;

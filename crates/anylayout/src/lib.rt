@@ -1,2 +1,4 @@
 // A layout that is known only as the program runs.
+#![tactic(auto)]
+
 pub mod layouts;

@@ -1,9 +1,9 @@
 -- A packing whose type is known only as the program runs.
 use Rattle.std.specs.Prelude.{ℕ, cond, List, Ok, Err, Result}
-use Rattle.faults.specs.declared.Fault.{Fault}
-use Rattle.faults.specs.declared.Rule.TheVariants.{Content}
+use Rattle.samples.specs.declared.fault.Fault.{Fault}
+use Rattle.samples.specs.declared.fault.Rule.TheVariants.{Content}
 use Rattle.samples.specs.Bounds.{size_tests}
-use Rattle.faults.specs.Faults.{refusal}
+use Rattle.samples.specs.Faults.{refusal}
 use Rattle.layout.specs.Meaning.{Meaning}
 use Rattle.formats.specs.declared.kind.Kind.{Kind}
 use Rattle.formats.specs.declared.kind.Kind.TheVariants as kind

@@ -3,12 +3,12 @@ ghost use Rattle.std.specs.Prelude.{◌≡◌};
 ghost use Rattle.anypacking.specs.Packings.{plain_packing, packing_made, packing_named};
 
 use crate::packings::AnyPacking;
-use faults::{Fault, Rule};
 use formats::kind::Kind;
 use formats::types::{TwoVuy, V210, V308, V408, V410};
 use formats::wide::V216;
 use packing::packed::Packed;
 use samples::bounds::Size;
+use samples::fault::{Fault, Rule};
 
 impl AnyPacking {
     // A packing of a type for pictures of a size and codes of n bits: refused by 4, then 9.

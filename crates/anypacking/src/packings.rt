@@ -4,12 +4,12 @@ ghost use Rattle.anypacking.specs.Packings.{kind_of, packing_meaning, row_bytes_
 ghost use Rattle.anypacking.specs.Kept.{packing_lawful};
 ghost use Rattle.std.proofs.Common.{rules};
 
-use faults::Fault;
 use formats::kind::Kind;
 use formats::types::{TwoVuy, V210, V308, V408, V410};
 use formats::wide::V216;
 use layout::interface::{Layout, Shaped};
 use packing::packed::Packed;
+use samples::fault::Fault;
 use samples::lines::PictureLine;
 use samples::shape::Shape;
 use samples::site::Site;

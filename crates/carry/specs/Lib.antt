@@ -1,1 +1,1 @@
-pub mod Bars
+pub mod Rest

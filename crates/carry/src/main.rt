@@ -1,12 +1,12 @@
-// carry: carries a recorder's frame, step by step. Today: its layout, and the frame in the making.
-mod bars;
-mod key;
-mod recorded;
+// carry: carries a recorder's frame, step by step. Today: the frame's layout, and a black frame in it.
+#![tactic(auto)]
+
+mod level;
 mod show;
 
 use anypacking::packings::AnyPacking;
-use bars::bars_line;
 use layout::interface::{Layout, Shaped};
+use level::{blacken, rest_line};
 use order::layer::Ordered;
 use samples::component::Component;
 
@@ -58,48 +58,15 @@ fn owners(rt: &HostRuntime, layout: &Recorder) -> anyhow::Result<()> {
     show::owner(rt, &AnyPacking::named("v210", 704, HEIGHT, BITS)?, 15028)
 }
 
-// The frame, from blank to whole, and what it turns away.
-fn calls(
-    rt: &HostRuntime,
-    layout: Recorder,
-    image: &mut [u8],
-    before: &mut [u8],
-    codes: &[u16],
-    bad: &[u16],
-) -> anyhow::Result<()> {
-    let mut frame = recorded::begin(layout, image)?;
-    recorded::blank(rt, &frame, image)?;
-    recorded::lay(rt, &mut frame, image, codes)?;
-    recorded::repair(rt, &mut frame, image)?;
-    keep(before, image);
-    recorded::refuse(rt, &mut frame, image, codes, bad)?;
-    show::compared(rt, before, image)
-}
-
-// Copies an image.
-fn keep(before: &mut [u8], image: &[u8]) {
-    if before.len() == image.len() {
-        before.copy_from_slice(image);
-    }
-}
-
-// The buffers that the calls are lent.
-fn record(rt: &HostRuntime, layout: Recorder) -> anyhow::Result<()> {
+// A black image, and what it holds.
+fn black(rt: &HostRuntime, layout: &Recorder) -> anyhow::Result<()> {
+    println!(rt; "6. black, by the rest code of each site")?;
+    let codes = rest_line(rt.alloc(), layout.shape())?;
     let mut image = vec![in rt.alloc(); 0u8; layout.length() as usize]?;
-    let mut before = vec![in rt.alloc(); 0u8; layout.length() as usize]?;
-    let codes = bars_line(rt.alloc(), layout.shape())?;
-    let mut bad = bars_line(rt.alloc(), layout.shape())?;
-    if let Some(code) = bad.get_mut(725) {
-        *code = 1020;
-    }
-    calls(
-        rt,
-        layout,
-        image.as_mut_slice(),
-        before.as_mut_slice(),
-        codes.as_slice(),
-        bad.as_slice(),
-    )
+    layout.wipe(image.as_mut_slice())?;
+    blacken(layout, image.as_mut_slice(), codes.as_slice())?;
+    show::group(rt, image.as_slice())?;
+    show::levels(rt, layout, image.as_slice())
 }
 
 fn run(rt: &HostRuntime) -> anyhow::Result<()> {
@@ -108,8 +75,7 @@ fn run(rt: &HostRuntime) -> anyhow::Result<()> {
     show::shape(rt, layout.shape())?;
     sites(rt, &layout)?;
     owners(rt, &layout)?;
-    record(rt, layout)?;
-    key::run(rt)
+    black(rt, &layout)
 }
 
 fn main(rt: HostRuntime) -> anyhow::Result<()> {

@@ -1,12 +1,12 @@
 // What the program prints.
-use frame::making::Making;
+use crate::level::level;
 use layout::interface::{Layout, shape_of};
 use samples::component::Component;
 use samples::lines::PictureLine;
 use samples::shape::{Chroma, Shape, TimeKind};
 use samples::site::Site;
 
-pub(crate) fn site(component: Component, column: u32, line: u32) -> Site {
+fn site_at(component: Component, column: u32, line: u32) -> Site {
     Site {
         component,
         column,
@@ -27,44 +27,30 @@ pub(crate) fn shape(rt: &HostRuntime, shape: Shape) -> anyhow::Result<()> {
     let width = shape.size.width;
     let height = shape.size.height;
     let bits = shape.bits.count;
-    print!(rt; "3. shape: {width} by {height}, {bits} bits")?;
-    print!(rt; ", {}", chroma(shape.chroma))?;
-    print!(rt; ", {}", if shape.alpha { "A" } else { "no A" })?;
-    print!(rt; ", {}", time(shape.time))?;
-    let count = shape.line_count();
-    println!(rt; "; {count} codes a line")?;
-    Ok(())
-}
-
-fn chroma(chroma: Chroma) -> &'static str {
-    match chroma {
+    let chroma = match shape.chroma {
         Chroma::Half => "half chroma",
         Chroma::Full => "full chroma",
-    }
-}
-
-fn time(time: TimeKind) -> &'static str {
-    match time {
+    };
+    let alpha = if shape.alpha { "A" } else { "no A" };
+    let time = match shape.time {
         TimeKind::Progressive => "progressive",
         TimeKind::TopFirst => "top field first",
         TimeKind::BottomFirst => "bottom field first",
-    }
-}
-
-// A site, at the beginning of a line.
-pub(crate) fn place(rt: &HostRuntime, site: Site) -> anyhow::Result<()> {
-    let component = name(site.component);
-    let column = site.column;
-    let line = site.line.0;
-    print!(rt; "   {component} column {column} line {line}: ")?;
+    };
+    let count = shape.line_count();
+    println!(rt;
+        "3. shape: {width} by {height}, {chroma}, {alpha}, {bits} bits, {time}; {count} codes a line"
+    )?;
     Ok(())
 }
 
 fn start<L: Layout>(rt: &HostRuntime, layout: &L, site: Site) -> anyhow::Result<()> {
-    place(rt, site)?;
+    let component = name(site.component);
+    let column = site.column;
+    let line = site.line.0;
     match layout.locate(site) {
-        Ok(bit) => println!(rt; "starts at bit {bit}")?,
-        Err(fault) => println!(rt; "{fault}")?,
+        Ok(bit) => println!(rt; "   {component} column {column} line {line} starts at bit {bit}")?,
+        Err(fault) => println!(rt; "   {component} column {column} line {line}: {fault}")?,
     }
     Ok(())
 }
@@ -77,12 +63,12 @@ pub(crate) fn ends<L: Layout>(
 ) -> anyhow::Result<()> {
     let shape = shape_of(layout);
     let columns = shape.columns(component);
-    start(rt, layout, site(component, 0, 0))?;
+    start(rt, layout, site_at(component, 0, 0))?;
     if columns > 0 {
         start(
             rt,
             layout,
-            site(component, columns - 1, shape.size.height - 1),
+            site_at(component, columns - 1, shape.size.height - 1),
         )?;
     }
     Ok(())
@@ -92,8 +78,10 @@ pub(crate) fn ends<L: Layout>(
 pub(crate) fn owner<L: Layout>(rt: &HostRuntime, layout: &L, bit: u32) -> anyhow::Result<()> {
     match layout.owner(bit) {
         Some(site) => {
-            place(rt, site)?;
-            println!(rt; "owns bit {bit}")?;
+            let component = name(site.component);
+            let column = site.column;
+            let line = site.line.0;
+            println!(rt; "   bit {bit}: {component} column {column} line {line}")?;
         }
         None => {
             let value = layout.fixed(bit) as u8;
@@ -104,8 +92,8 @@ pub(crate) fn owner<L: Layout>(rt: &HostRuntime, layout: &L, bit: u32) -> anyhow
 }
 
 // The first 16 bytes of an image.
-pub(crate) fn bytes(rt: &HostRuntime, name: &str, image: &[u8]) -> anyhow::Result<()> {
-    print!(rt; "   {name}:")?;
+pub(crate) fn group(rt: &HostRuntime, image: &[u8]) -> anyhow::Result<()> {
+    print!(rt; "   first group:")?;
     for byte in image.iter().take(16) {
         print!(rt; " {byte:02x}")?;
     }
@@ -113,28 +101,19 @@ pub(crate) fn bytes(rt: &HostRuntime, name: &str, image: &[u8]) -> anyhow::Resul
     Ok(())
 }
 
-// The code of a site of a frame.
-pub(crate) fn code<L: Layout>(
-    rt: &HostRuntime,
-    frame: &Making<L>,
-    image: &[u8],
-    component: Component,
-    column: u32,
-    line: u32,
-) -> anyhow::Result<()> {
-    let code = frame.take(image, site(component, column, line))?;
-    place(rt, site(component, column, line))?;
-    println!(rt; "{code}")?;
+fn code<L: Layout>(rt: &HostRuntime, layout: &L, image: &[u8], site: Site) -> anyhow::Result<()> {
+    let component = name(site.component);
+    let column = site.column;
+    let line = site.line.0;
+    let code = level(layout, image, site)?;
+    println!(rt; "   {component} column {column} line {line} holds {code}")?;
     Ok(())
 }
 
-// Whether an image is as it was.
-pub(crate) fn compared(rt: &HostRuntime, before: &[u8], image: &[u8]) -> anyhow::Result<()> {
-    let same = if before == image {
-        "unchanged"
-    } else {
-        "changed"
-    };
-    println!(rt; "   image: {same}")?;
-    Ok(())
+// The codes of some sites.
+pub(crate) fn levels<L: Layout>(rt: &HostRuntime, layout: &L, image: &[u8]) -> anyhow::Result<()> {
+    code(rt, layout, image, site_at(Component::Luma, 0, 0))?;
+    code(rt, layout, image, site_at(Component::Luma, 719, 485))?;
+    code(rt, layout, image, site_at(Component::Cb, 100, 1))?;
+    code(rt, layout, image, site_at(Component::Cr, 359, 485))
 }

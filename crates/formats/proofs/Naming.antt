@@ -3,8 +3,8 @@ use Rattle.std.proofs.Common.{◌≡◌, ℕ, cond, List, Err, codes, sym, refl,
 use Rattle.std.specs.Str.{bytes_eq}
 use Rattle.std.proofs.lemmas.Slice.Eq.{bytes_eq-Decides}
 use Rattle.std.proofs.lemmas.Bool.{cond_both}
-use Rattle.faults.specs.declared.Rule.TheVariants.{UnknownType}
-use Rattle.faults.specs.Faults.{refusal}
+use Rattle.samples.specs.declared.fault.Rule.TheVariants.{UnknownType}
+use Rattle.samples.specs.Faults.{refusal}
 use Rattle.formats.specs.Names.{kind_named}
 
 other : {X : Type 0} (s t : List ℕ) (x y : X) → (s ≡ t → ⊥) → cond (bytes_eq s t) x y ≡ y

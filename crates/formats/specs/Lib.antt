@@ -4,4 +4,3 @@ pub mod Formats
 pub mod Names
 pub mod Made
 pub mod Six
-pub mod Table

@@ -1,8 +1,8 @@
 -- Packings of plain numbers.
 use Rattle.std.specs.Prelude.{ℕ, cond, List, Ok, Err, Result}
-use Rattle.faults.specs.declared.Fault.{Fault}
-use Rattle.faults.specs.declared.Rule.TheVariants.{Content}
-use Rattle.faults.specs.Faults.{refusal}
+use Rattle.samples.specs.declared.fault.Fault.{Fault}
+use Rattle.samples.specs.declared.fault.Rule.TheVariants.{Content}
+use Rattle.samples.specs.Faults.{refusal}
 use Rattle.formats.specs.declared.wide.V216.{V216}
 use Rattle.formats.specs.Wide.{v216_width}
 

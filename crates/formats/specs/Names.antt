@@ -1,9 +1,9 @@
 -- The types by their four letters; any other text is refused by 2.
 use Rattle.std.specs.Prelude.{ℕ, cond, List, Ok, Err, codes, Result}
 use Rattle.std.specs.Str.{bytes_eq}
-use Rattle.faults.specs.declared.Fault.{Fault}
-use Rattle.faults.specs.declared.Rule.TheVariants.{UnknownType}
-use Rattle.faults.specs.Faults.{refusal}
+use Rattle.samples.specs.declared.fault.Fault.{Fault}
+use Rattle.samples.specs.declared.fault.Rule.TheVariants.{UnknownType}
+use Rattle.samples.specs.Faults.{refusal}
 use Rattle.formats.specs.declared.kind.Kind.{Kind}
 use Rattle.formats.specs.declared.kind.Kind.TheVariants.{TwoVuy, V308, V408, V216, V410, V210}
 

@@ -4,12 +4,9 @@ use Rattle.std.proofs.Common.{sym, subst, inl, inr, arith}
 use Rattle.std.proofs.lemmas.Bool.{eqb-true}
 use Rattle.samples.specs.declared.bounds.Bits.{Bits}
 use Rattle.samples.proofs.Bounded.{same_bits}
-use Rattle.formats.specs.declared.kind.Kind.{Kind}
-use Rattle.formats.specs.declared.kind.Kind.TheVariants.{TwoVuy, V308, V408, V216, V410, V210}
 use Rattle.formats.specs.Packing.{Packing, Proper, all_apart}
-use Rattle.formats.specs.Formats.{packing_of, takes, SlotsDisjoint, p_2vuy, p_v308, p_v408, p_v216, p_v410, p_v210, ten}
+use Rattle.formats.specs.Formats.{p_2vuy, p_v308, p_v408, p_v216, p_v410, p_v210}
 use Rattle.formats.specs.Wide.{v216_width}
-use Rattle.formats.specs.Table.{runs_apart}
 
 either : (a b : Bool) → (a || b) ≡ true → (a ≡ true) ⊎ (b ≡ true)
 either true b t = inl refl
@@ -113,14 +110,3 @@ proper_v210 = record {
   every = refl;
   disjoint = refl;
 }
-
-pub proper_kind : (k : Kind) (n : Bits) → takes k n.count ≡ true → Proper (packing_of k n)
-proper_kind TwoVuy n t = proper_2vuy
-proper_kind V308 n t = proper_v308
-proper_kind V408 n t = proper_v408
-proper_kind V216 n t = proper_v216 n t
-proper_kind V410 n t = proper_v410
-proper_kind V210 n t = proper_v210
-
-pub slots_disjoint : SlotsDisjoint
-slots_disjoint k n t = runs_apart (packing_of k n) (proper_kind k n t)

@@ -3,7 +3,7 @@ ghost use Rattle.std.specs.Prelude.{◌≡◌};
 ghost use Rattle.formats.specs.Names.{kind_named};
 ghost use Rattle.formats.specs.Formats.{takes};
 
-use faults::{Fault, Rule};
+use samples::fault::{Fault, Rule};
 
 // The types of packing.
 #[derive(Clone, Copy, PartialEq, Eq, Debug)]

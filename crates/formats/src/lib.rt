@@ -1,4 +1,6 @@
 // The six types of packing: their fixed figures, and a table of the runs within a group for each.
+#![tactic(auto)]
+
 pub mod format;
 pub mod kind;
 pub mod laws;

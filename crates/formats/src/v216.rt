@@ -6,8 +6,8 @@ ghost use Rattle.formats.specs.Six.{proper_v216};
 
 use crate::format::{Figures, Fixed, Format, entry};
 use crate::wide::V216;
-use faults::{Fault, Rule};
 use samples::bounds::{Bits, Size};
+use samples::fault::{Fault, Rule};
 use samples::shape::Chroma;
 
 impl V216 {

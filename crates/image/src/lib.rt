@@ -1,4 +1,6 @@
 // The bits of an image: bit b is bit b mod 8 (0 the least) of byte floor(b / 8).
+#![tactic(auto)]
+
 ghost use Rattle.std.specs.Prelude.{◌≡◌, ◌*◌, ◌^◌, ◌<◌, slice_index, slice_set};
 ghost use Rattle.image.specs.Bits.{code_at, width, written};
 

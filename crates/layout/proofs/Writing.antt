@@ -5,8 +5,8 @@ use Rattle.std.proofs.lemmas.Bool.{cases_Bool, both_ways, and_parts, ltb-true, l
 use Rattle.image.specs.Bits.{bit_of, number, bit, image_of, written}
 use Rattle.image.proofs.Images.{Bytes, image_is, in_run, run_in, image_of_ext, bit_image_of}
 use Rattle.samples.specs.declared.site.Site.{Site}
-use Rattle.faults.specs.declared.Rule.TheVariants.{NoSite}
-use Rattle.faults.specs.Faults.{refusal}
+use Rattle.samples.specs.declared.fault.Rule.TheVariants.{NoSite}
+use Rattle.samples.specs.Faults.{refusal}
 use Rattle.samples.specs.Shapes.{has}
 use Rattle.layout.specs.Meaning.{Meaning, Lawful, width, located}
 use Rattle.layout.specs.Images.{bit_new, bit_written, rewritten, same_site, only, code_of, held}
@@ -18,10 +18,6 @@ use Rattle.layout.proofs.Following.{apart, same_some}
 abbrev pub later : Option ℕ → Option ℕ → Option ℕ
 later (Some v) old = Some v
 later None old = old
-
-pub rewritten_length : (m : Meaning) (f : Site → Option ℕ) (image : List ℕ) → length (rewritten m f image) ≡ length image
-rewritten_length m f image =
-    length-map-range_with_len (λ i. number 8 (λ k. bit_written m f image (8 * i + k) (m.owner (8 * i + k)))) 0 (length image)
 
 module _ (m : Meaning) (laws : Lawful m) where
   -- ---- writes of any codes
@@ -46,7 +42,7 @@ module _ (m : Meaning) (laws : Lawful m) where
     pub rewritten_twice : (f g : Site → Option ℕ) → rewritten m g (rewritten m f image) ≡ rewritten m (λ s. later (g s) (f s)) image
     rewritten_twice f g =
         let once : List ℕ = rewritten m f image in
-        ap (λ z. image_of z (λ b. bit_written m g once b (m.owner b))) (rewritten_length m f image)
+        ap (λ z. image_of z (λ b. bit_written m g once b (m.owner b))) (length-map-range_with_len (λ i. number 8 (λ k. bit_written m f image (8 * i + k) (m.owner (8 * i + k)))) 0 (length image))
         ∙ image_of_ext (length image) (λ b. bit_written m g once b (m.owner b)) (λ b. bit_written m (λ s. later (g s) (f s)) image b (m.owner b))
         (λ b l. at b (m.owner b) (bit_image_of (length image) (λ z. bit_written m f image z (m.owner z)) b l))
       where
@@ -111,14 +107,3 @@ located_held m image s = at (has m.shape s)
     at : (b : Bool) → read_where (width m) (cond b (Ok (m.start s)) (Err (refusal NoSite 0))) image ≡ cond b (code_of m image s) 0
     at true = refl
     at false = refl
-
--- ---- one write after another
-module _ (m : Meaning) (laws : Lawful m) (image : List ℕ) where
-  -- writes that begin with none
-  pub begins : Bytes image → (f : Site → Option ℕ) → ((s : Site) → f s ≡ None) → image ≡ rewritten m f image
-  begins small f none = sym (rewritten_ext m laws image f (λ _. None) (λ s _. none s) ∙ rewritten_none m laws image small)
-
-  -- a write g after the writes f makes the writes h
-  pub goes_on : (now' after : List ℕ) (f g h : Site → Option ℕ) → ((s : Site) → has m.shape s ≡ true → later (g s) (f s) ≡ h s) → now' ≡ rewritten m f image → after ≡ rewritten m g now' → after ≡ rewritten m h image
-  goes_on now' after f g h e inv next =
-      next ∙ ap (rewritten m g) inv ∙ rewritten_twice m laws image f g ∙ rewritten_ext m laws image (λ s. later (g s) (f s)) h e

@@ -1,10 +1,10 @@
 -- What a layout means, and the laws that each layout owes.
 use Rattle.std.specs.Prelude.{◌≡◌, ℕ, ◌+◌, ◌*◌, ◌<◌, ◌≤◌, Bool, true, false, cond, Some, None, Ok, Err, Option, Result}
-use Rattle.faults.specs.declared.Fault.{Fault}
-use Rattle.faults.specs.declared.Rule.TheVariants.{NoSite}
+use Rattle.samples.specs.declared.fault.Fault.{Fault}
+use Rattle.samples.specs.declared.fault.Rule.TheVariants.{NoSite}
 use Rattle.samples.specs.declared.shape.Shape.{Shape}
 use Rattle.samples.specs.declared.site.Site.{Site}
-use Rattle.faults.specs.Faults.{refusal}
+use Rattle.samples.specs.Faults.{refusal}
 use Rattle.samples.specs.Shapes.{has}
 
 pub record Meaning : Type 0 where

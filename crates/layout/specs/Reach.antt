@@ -1,7 +1,7 @@
 -- A code at a place that may not be there.
 use Rattle.std.specs.Prelude.{ℕ, List, Ok, Err, Result}
 use Rattle.image.specs.Bits.{code_at, written}
-use Rattle.faults.specs.declared.Fault.{Fault}
+use Rattle.samples.specs.declared.fault.Fault.{Fault}
 
 abbrev pub read_where : ℕ → Result ℕ Fault → List ℕ → ℕ
 read_where n (Ok b) image = code_at n b image

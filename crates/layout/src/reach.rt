@@ -2,9 +2,9 @@
 ghost use Rattle.std.specs.Prelude.{◌≡◌};
 ghost use Rattle.layout.specs.Reach.{read_where, written_where};
 
-use faults::Fault;
 use image::{read_code, write_code};
 use samples::bounds::Bits;
+use samples::fault::Fault;
 
 // The code that starts at a bit; 0 where there is no start.
 pub(crate) fn read_at(image: &[u8], start: Result<u32, Fault>, bits: Bits) -> u16

@@ -5,11 +5,11 @@ use Rattle.std.proofs.lemmas.Bool.{cases_lt, cases_eq, eq-eqb, ne_eqb, lt-ltb, l
 use Rattle.image.specs.Bits.{bit_of}
 use Rattle.image.proofs.Images.{image_of_ext}
 use Rattle.samples.specs.declared.component.Component.{Component}
-use Rattle.faults.specs.declared.Fault.{Fault}
-use Rattle.faults.specs.declared.Rule.TheVariants.{NoSite, CodeCount}
+use Rattle.samples.specs.declared.fault.Fault.{Fault}
+use Rattle.samples.specs.declared.fault.Rule.TheVariants.{NoSite, CodeCount}
 use Rattle.samples.specs.declared.lines.PictureLine.{PictureLine}
 use Rattle.samples.specs.declared.site.Site.{Site}
-use Rattle.faults.specs.Faults.{refusal}
+use Rattle.samples.specs.Faults.{refusal}
 use Rattle.samples.specs.Lines.{first_of, line_count, index_of, site_of, component_at}
 use Rattle.samples.specs.Shapes.{columns, has, retimed}
 use Rattle.layout.specs.Meaning.{Meaning, Lawful}

@@ -1,6 +1,7 @@
 -- A line order over a lawful layout is lawful.
 use Rattle.std.specs.Prelude.{◌≡◌, ℕ, ◌+◌, ◌<◌, ◌≤◌, true, ◌&&◌, Some, None, Option, nat_lt, refl}
 use Rattle.std.proofs.Common.{sym, ap, subst, ◌∙◌, arith}
+use Rattle.std.proofs.lemmas.Bool.Decides.{nat_tests}
 use Rattle.samples.specs.declared.component.Component.{Component}
 use Rattle.samples.specs.declared.component.Component.TheVariants.{Luma, Cb, Cr, Alpha}
 use Rattle.samples.specs.declared.shape.TimeKind.{TimeKind}
@@ -12,9 +13,9 @@ use Rattle.samples.specs.Times.{Bijection}
 use Rattle.layout.specs.Meaning.{Meaning, Lawful, width}
 use Rattle.layout.proofs.Sites.{has_parts, has_from}
 use Rattle.order.specs.declared.order.Order.{Order}
+use Rattle.order.specs.declared.order.Order.TheVariants.{Whole, TopThenBottom, BottomThenTop, TopWoven, BottomWoven}
 use Rattle.order.specs.Orders.{kind_of, stored}
 use Rattle.order.specs.Over.{over, shown, moved, moved_some}
-use Rattle.order.specs.Noted.{orders_are_the_notes}
 
 -- ---- a shape has the same sites in any order of time
 pub columns_retimed : (k : TimeKind) (t : Shape) (c : Component) → columns (retimed k t) c ≡ columns t c
@@ -48,7 +49,36 @@ owner_below f None s e = absurd (let z : ◌≡◌ {A = ℕ} 0 1 = cc in omega a
 
 -- the lines here and below are the same lines in another order
 pub lines : (o : Order) (h : ℕ) → Bijection h (shown o h) (stored o h)
-lines o h = (orders_are_the_notes o h).lines
+lines Whole h = record {
+  there = λ n l. l;
+  back = λ s l. l;
+  left = λ n l. refl;
+  right = λ s l. refl;
+}
+lines TopThenBottom h = record {
+  there = λ n l. grind (arith, nat_tests);
+  back = λ s l. grind (arith, nat_tests);
+  left = λ n l. grind (arith, nat_tests);
+  right = λ s l. grind (arith, nat_tests);
+}
+lines BottomThenTop h = record {
+  there = λ n l. grind (arith, nat_tests);
+  back = λ s l. grind (arith, nat_tests);
+  left = λ n l. grind (arith, nat_tests);
+  right = λ s l. grind (arith, nat_tests);
+}
+lines TopWoven h = record {
+  there = λ n l. l;
+  back = λ s l. l;
+  left = λ n l. refl;
+  right = λ s l. refl;
+}
+lines BottomWoven h = record {
+  there = λ n l. l;
+  back = λ s l. l;
+  left = λ n l. refl;
+  right = λ s l. refl;
+}
 
 module _ (o : Order) (m : Meaning) (laws : Lawful m) where
   below : (s : Site) → has (retimed (kind_of o) m.shape) s ≡ true → has m.shape s ≡ true

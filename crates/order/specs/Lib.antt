@@ -2,4 +2,3 @@ pub mod Orders
 pub mod Notes
 pub mod Over
 pub mod Layered
-pub mod Noted

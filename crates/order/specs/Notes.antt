@@ -31,11 +31,11 @@ picture_at_of o h n = cond (nat_lt n.0 h) (Some (record { 0 = S o h n.0 })) None
 abbrev pub time_at_of : Order → ℕ → AddressLine → Option TimeLine
 time_at_of o h n = cond (nat_lt n.0 h) (Some (record { 0 = T o h n.0 })) None
 
-pub record As-the-note (o : Order) (h : ℕ) : Type 0 where
+pub record AsTheNote (o : Order) (h : ℕ) : Type 0 where
   -- address n stores picture line S(n), and the addresses are the picture lines in another order
   pub lines : Bijection h (S o h) (stored o h)
   -- picture line S(n) comes at time T(n)
   pub times : (n : ℕ) → n < h → time_line (kind_of o) h (S o h n) ≡ T o h n
 
 abbrev pub OrdersAreTheNotes : Type 0
-OrdersAreTheNotes = (o : Order) (h : ℕ) → As-the-note o h
+OrdersAreTheNotes = (o : Order) (h : ℕ) → AsTheNote o h

@@ -1,12 +1,12 @@
 -- The orders in which lines stand: their pairs of fields and detail, their order in time, and where they store a line.
 use Rattle.std.specs.Prelude.{ℕ, cond, ◌&&◌, Some, None, Ok, Err, Option, Result, ◌==◌, nat_lt}
-use Rattle.faults.specs.declared.Fault.{Fault}
-use Rattle.faults.specs.declared.Rule.TheVariants.{Content}
+use Rattle.samples.specs.declared.fault.Fault.{Fault}
+use Rattle.samples.specs.declared.fault.Rule.TheVariants.{Content}
 use Rattle.samples.specs.declared.lines.AddressLine.{AddressLine}
 use Rattle.samples.specs.declared.lines.PictureLine.{PictureLine}
 use Rattle.samples.specs.declared.shape.TimeKind.{TimeKind}
 use Rattle.samples.specs.declared.shape.TimeKind.TheVariants.{Progressive, TopFirst, BottomFirst}
-use Rattle.faults.specs.Faults.{refusal}
+use Rattle.samples.specs.Faults.{refusal}
 use Rattle.samples.specs.Times.{time_line}
 use Rattle.order.specs.declared.order.Order.{Order}
 use Rattle.order.specs.declared.order.Order.TheVariants.{Whole, TopThenBottom, BottomThenTop, TopWoven, BottomWoven}

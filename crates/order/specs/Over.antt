@@ -1,6 +1,6 @@
 -- What a layout means under a line order.
 use Rattle.std.specs.Prelude.{ℕ, cond, Some, None, Ok, Err, Option, Result, nat_lt}
-use Rattle.faults.specs.declared.Fault.{Fault}
+use Rattle.samples.specs.declared.fault.Fault.{Fault}
 use Rattle.samples.specs.declared.lines.PictureLine.{PictureLine}
 use Rattle.samples.specs.declared.site.Site.{Site}
 use Rattle.samples.specs.Lines.{site_of}

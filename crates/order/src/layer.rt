@@ -7,8 +7,8 @@ ghost use Rattle.order.specs.Layered.{over_lawful};
 ghost use Rattle.std.proofs.Common.{rules};
 
 use crate::order::Order;
-use faults::{Declined, Fault, Rule};
 use layout::interface::{Layout, Shaped, shape_of};
+use samples::fault::{Declined, Fault, Rule};
 use samples::lines::{AddressLine, PictureLine};
 use samples::shape::Shape;
 use samples::site::Site;

@@ -3,7 +3,7 @@ ghost use Rattle.std.specs.Prelude.{◌≡◌};
 ghost use Rattle.order.specs.Orders.{order_of, kind_of, rule_of, address_line_of};
 ghost use Rattle.order.specs.Notes.{picture_at_of, time_at_of, OrdersAreTheNotes};
 
-use faults::{Fault, Rule};
+use samples::fault::{Fault, Rule};
 use samples::lines::{AddressLine, PictureLine, TimeLine};
 use samples::shape::TimeKind;
 

@@ -22,7 +22,7 @@ use Rattle.layout.proofs.Following.{unowned}
 use Rattle.formats.specs.declared.format.Figures.{Figures}
 use Rattle.formats.specs.Packing.{Packing, Proper, figures_of, runs_of, runs, start_in, holder, whole_pairs}
 use Rattle.packing.specs.Packed.{shape_of, start_of, if_has, site_in, owner_of, packed}
-use Rattle.formats.specs.Table.{run_within, run_held, held_run}
+use Rattle.formats.proofs.Table.{run_within, run_held, held_run}
 
 -- A number in three digits: line, group and bit, where a line has r bits and a group s, and g groups fit into a line.
 module _ (r s g : ℕ) (fit : g * s ≤ r) where

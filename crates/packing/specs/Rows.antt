@@ -1,11 +1,11 @@
 -- Rows of an image, by the lines as they are stored.
 use Rattle.std.specs.Prelude.{ℕ, ◌*◌, cond, Ok, Err, Result, nat_lt}
 use Rattle.samples.specs.declared.bounds.Size.{Size}
-use Rattle.faults.specs.declared.Fault.{Fault}
-use Rattle.faults.specs.declared.Rule.TheVariants.{NoSite}
+use Rattle.samples.specs.declared.fault.Fault.{Fault}
+use Rattle.samples.specs.declared.fault.Rule.TheVariants.{NoSite}
 use Rattle.samples.specs.declared.lines.AddressLine.{AddressLine}
 use Rattle.samples.specs.declared.lines.PictureLine.{PictureLine}
-use Rattle.faults.specs.Faults.{refusal}
+use Rattle.samples.specs.Faults.{refusal}
 use Rattle.formats.specs.Packing.{Packing}
 
 -- rows follow without gaps: the first byte of a row, or refusal 12

@@ -61,7 +61,7 @@ fn covers_bit(bits: u32, bit: u32, start: u32) -> bool
 
 // The number of the run that holds a bit of the group.
 pub(crate) fn holder_of<F: Format>(format: &F, bit: u32) -> Option<u32>
-    ensures { result ≡ holder (packing format.now) bit }
+    ensures { result ≡ holder (F.Format.packing format.now) bit }
 {
     let figures = format.figures();
     let count = first_run(&figures, Component::Alpha) + run_count(&figures, Component::Alpha);

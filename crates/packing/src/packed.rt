@@ -7,10 +7,10 @@ ghost use Rattle.std.proofs.Common.{rules};
 
 use crate::group::{first_run, holder_of, run_component, run_count};
 use crate::rows::{shown_line, stored_line};
-use faults::{Fault, Rule};
 use formats::format::Format;
 use layout::interface::{Layout, Shaped};
 use samples::bounds::Size;
+use samples::fault::{Fault, Rule};
 use samples::lines::AddressLine;
 use samples::shape::{Shape, TimeKind};
 use samples::site::Site;

@@ -1,6 +1,6 @@
 -- Plane words have no more to them than their shape.
 use Rattle.std.specs.Prelude.{Ok, Err, Result}
-use Rattle.faults.specs.declared.Fault.{Fault}
+use Rattle.samples.specs.declared.fault.Fault.{Fault}
 use Rattle.samples.specs.Shapes.{PlainShape, plain}
 use Rattle.planes.specs.declared.Planes.{Planes}
 

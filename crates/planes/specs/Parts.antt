@@ -10,9 +10,23 @@ use Rattle.samples.specs.declared.shape.Chroma.TheVariants.{Half, Full}
 use Rattle.samples.specs.declared.shape.Shape.{Shape}
 use Rattle.samples.specs.Parts.{part_at}
 use Rattle.samples.specs.Shapes.{chroma_columns, columns}
-use Rattle.samples.proofs.Columns.{columns_le}
 use Rattle.samples.proofs.Dividing.{part_here, part_small, part_holds}
 use Rattle.planes.specs.Words.{plane, offset, words, plane_of}
+
+-- ---- how many columns a component has at most
+chroma_le : (c : Chroma) (w : ℕ) → chroma_columns c w ≤ w
+chroma_le Half w = omega arith
+chroma_le Full w = omega arith
+
+alpha_le : (a : Bool) (w : ℕ) → cond a w 0 ≤ w
+alpha_le true w = omega arith
+alpha_le false w = zero-le
+
+pub columns_le : (t : Shape) (k : Component) → columns t k ≤ t.size.width
+columns_le t Luma = omega arith
+columns_le t Cb = chroma_le t.chroma t.size.width
+columns_le t Cr = chroma_le t.chroma t.size.width
+columns_le t Alpha = alpha_le t.alpha t.size.width
 
 positive : (h w i : ℕ) → i < h * w → 0 < w
 positive h zero i l = omega (arith, mul-zero h)

@@ -4,11 +4,9 @@ ghost use Rattle.planes.specs.Lawful.{planes_lawful};
 ghost use Rattle.std.proofs.Common.{rules};
 
 use crate::Planes;
-use faults::{Fault, Rule};
-use image::{read_code, write_code};
 use layout::interface::{Layout, Shaped};
-use layout::judge::judge_line;
-use layout::part::Part;
+use samples::component::Component;
+use samples::fault::{Fault, Rule};
 use samples::lines::PictureLine;
 use samples::shape::Shape;
 use samples::site::Site;
@@ -73,41 +71,37 @@ impl Layout for Planes {
         (self.blank(at / 4) >> 24) as u8
     }
 
-    // The words of a component follow one another, so a running position finds them.
-    fn read_part<P: Part>(
-        &self,
-        image: &[u8],
-        line: PictureLine,
-        part: &P,
-        codes: &mut [u16],
-    ) -> Result<(), Fault> {
-        let component = part.component();
-        judge_line(image.len(), self.length(), self.shape, line, codes.len())?;
-        let first = self.shape.first_of(component);
-        let mut bit = self.run_start(line, component);
-        for column in 0..self.shape.columns(component) {
-            codes[(first + column) as usize] = read_code(image, bit, self.shape.bits.count);
-            bit += 32;
+    fn read_line(&self, image: &[u8], line: PictureLine, codes: &mut [u16]) -> Result<(), Fault> {
+        if image.len() != self.length() as usize {
+            return Err(Fault::of(Rule::ImageLength, 0));
         }
+        if line.0 >= self.shape.size.height {
+            return Err(Fault::of(Rule::NoSite, 0));
+        }
+        if codes.len() != self.shape.line_count() as usize {
+            return Err(Fault::of(Rule::CodeCount, 0));
+        }
+        self.read_plane(image, line, Component::Luma, codes);
+        self.read_plane(image, line, Component::Cb, codes);
+        self.read_plane(image, line, Component::Cr, codes);
+        self.read_plane(image, line, Component::Alpha, codes);
         Ok(())
     }
 
-    fn write_part<P: Part>(
-        &self,
-        image: &mut [u8],
-        line: PictureLine,
-        part: &P,
-        codes: &[u16],
-    ) -> Result<(), Fault> {
-        let component = part.component();
-        judge_line(image.len(), self.length(), self.shape, line, codes.len())?;
-        let first = self.shape.first_of(component);
-        let mut bit = self.run_start(line, component);
-        for column in 0..self.shape.columns(component) {
-            let code = codes[(first + column) as usize];
-            write_code(image, bit, self.shape.bits.count, code);
-            bit += 32;
+    fn write_line(&self, image: &mut [u8], line: PictureLine, codes: &[u16]) -> Result<(), Fault> {
+        if image.len() != self.length() as usize {
+            return Err(Fault::of(Rule::ImageLength, 0));
         }
+        if line.0 >= self.shape.size.height {
+            return Err(Fault::of(Rule::NoSite, 0));
+        }
+        if codes.len() != self.shape.line_count() as usize {
+            return Err(Fault::of(Rule::CodeCount, 0));
+        }
+        self.write_plane(image, line, Component::Luma, codes);
+        self.write_plane(image, line, Component::Cb, codes);
+        self.write_plane(image, line, Component::Cr, codes);
+        self.write_plane(image, line, Component::Alpha, codes);
         Ok(())
     }
 }

@@ -1,7 +1,10 @@
 // Plane words: a layout for any shape, one word of 32 bits for each site.
+#![tactic(auto)]
+
 use samples::shape::Shape;
 
 pub mod interface;
+mod lines;
 pub mod make;
 #[cfg(test)]
 mod tests;

@@ -4,7 +4,7 @@ ghost use Rattle.samples.specs.Shapes.{shape_made};
 ghost use Rattle.planes.specs.Make.{plain_planes};
 
 use crate::Planes;
-use faults::Fault;
+use samples::fault::Fault;
 use samples::shape::{Chroma, Shape, TimeKind};
 
 impl Planes {

@@ -1,8 +1,8 @@
 // Plane words made, asked, wiped, written and read, with what they should give worked out by hand.
 use super::*;
-use faults::{Fault, Rule};
 use layout::interface::{Layout, Shaped};
 use samples::component::Component;
+use samples::fault::{Fault, Rule};
 use samples::lines::PictureLine;
 use samples::shape::{Chroma, TimeKind};
 use samples::site::Site;

@@ -1,11 +1,9 @@
 // The words by their numbers: whose they are, and what they hold with no code.
-ghost use Rattle.std.specs.Prelude.{◌≡◌, ◌+◌, ◌*◌, ◌^◌, ◌<◌, ◌≤◌};
-ghost use Rattle.samples.specs.Shapes.{columns};
+ghost use Rattle.std.specs.Prelude.{◌≡◌, ◌*◌, ◌≤◌};
 ghost use Rattle.planes.specs.Words.{plane, offset, words, plane_of, blank_of};
 
 use crate::Planes;
 use samples::component::Component;
-use samples::lines::PictureLine;
 
 impl Planes {
     // The words of a component.
@@ -39,15 +37,6 @@ impl Planes {
             + self.plane(Component::Cb)
             + self.plane(Component::Cr)
             + self.plane(Component::Alpha)
-    }
-
-    // The first bit of a component's words of a line.
-    pub(crate) fn run_start(self, line: PictureLine, component: Component) -> u32
-        requires { line.0 < self.shape.size.height }
-        ensures value { result ≡ 32 * (offset self.shape component + line.0 * columns self.shape component) }
-        ensures room { result + 32 * columns self.shape component < 2 ^ 32 }
-    {
-        32 * (self.offset(component) + line.0 * self.shape.columns(component))
     }
 
     // The component of a word; past the words, none.

@@ -2,9 +2,9 @@
 use Rattle.std.specs.Prelude.{ℕ, ◌%◌, Bool, cond, ◌&&◌, Ok, Err, Result, ◌==◌, nat_le}
 use Rattle.samples.specs.declared.bounds.Size.{Size}
 use Rattle.samples.specs.declared.bounds.Bits.{Bits}
-use Rattle.faults.specs.declared.Fault.{Fault}
-use Rattle.faults.specs.declared.Rule.TheVariants as rule
-use Rattle.faults.specs.Faults.{refusal}
+use Rattle.samples.specs.declared.fault.Fault.{Fault}
+use Rattle.samples.specs.declared.fault.Rule.TheVariants as rule
+use Rattle.samples.specs.Faults.{refusal}
 
 abbrev pub width_allowed : ℕ → Bool
 width_allowed w = w % 2 == 0 && (nat_le 2 w && nat_le w 4096)

@@ -2,7 +2,7 @@
 use Rattle.std.specs.Prelude.{ℕ, ◌/◌, Bool, cond, ◌&&◌, Ok, Err, Result, nat_lt}
 use Rattle.samples.specs.declared.component.Component.{Component}
 use Rattle.samples.specs.declared.component.Component.TheVariants.{Luma, Cb, Cr, Alpha}
-use Rattle.faults.specs.declared.Fault.{Fault}
+use Rattle.samples.specs.declared.fault.Fault.{Fault}
 use Rattle.samples.specs.declared.shape.Chroma.{Chroma}
 use Rattle.samples.specs.declared.shape.Chroma.TheVariants.{Half, Full}
 use Rattle.samples.specs.declared.shape.TimeKind.{TimeKind}

@@ -4,8 +4,8 @@ ghost use Rattle.samples.specs.Bounds.{plain_size, size_made, plain_bits, bits_m
 ghost use Rattle.samples.specs.Shapes.{plain_shape, shape_made};
 
 use crate::bounds::{Bits, Size};
+use crate::fault::{Fault, Rule};
 use crate::shape::{Chroma, Shape, TimeKind};
-use faults::{Fault, Rule};
 
 impl Size {
     // A width that is even, 2 to 4,096, and a height of 1 to 2,304; else refused by 4.

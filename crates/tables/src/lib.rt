@@ -1,4 +1,6 @@
 // Layouts held against tables that were worked out from the rules. There are only tests here.
+#![tactic(auto)]
+
 #[cfg(test)]
 mod blank;
 #[cfg(test)]

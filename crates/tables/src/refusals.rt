@@ -1,7 +1,7 @@
 // Refusals, and which of two causes comes first.
 use anypacking::packings::AnyPacking;
-use faults::Fault;
 use layout::interface::Layout;
+use samples::fault::Fault;
 use samples::lines::PictureLine;
 use std::process::Abort;
 use std::test::Fail;

@@ -1,8 +1,8 @@
 // Rows, lengths and starts of all six packings, at three lines and at widths about the group and row boundaries.
 use anypacking::packings::AnyPacking;
-use faults::Fault;
 use layout::interface::Layout;
 use samples::component::Component;
+use samples::fault::Fault;
 use samples::lines::PictureLine;
 use samples::site::Site;
 use std::process::Abort;

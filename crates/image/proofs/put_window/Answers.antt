@@ -12,17 +12,17 @@ pub returns-then-at-image : goal.returns-then-at-image
 returns-then-at-image c =
     -- the slice was lent, so each of its elements is known to be a byte
     let small : Bytes c.args.image.now = search rules in
-    ap (put c.args.image.now c.args.at) c.to-le-bytes-bytes.ensures
+    ap (put c.args.image.now c.args.at) c.to_le_bytes-bytes.ensures
     ∙ written_four c.args.image.now small c.args.at c.args.x
 
 pub returns-else-at-image : goal.returns-else-at-image
 returns-else-at-image c =
     let at = c.args.at in
-    let bytes = c.to-le-bytes-bytes.result in
+    let bytes = c.to_le_bytes-bytes.result in
     let small : Bytes c.args.image.now = search rules in
-    c.put-byte-else-at-image-3.ensures
-    ∙ ap (λ l. set l (at + 3) (get_or bytes 3 0)) c.put-byte-else-at-image-2.ensures
-    ∙ ap (λ l. set (set l (at + 2) (get_or bytes 2 0)) (at + 3) (get_or bytes 3 0)) c.put-byte-else-at-image.ensures
-    ∙ ap (λ l. set (set (set l (at + 1) (get_or bytes 1 0)) (at + 2) (get_or bytes 2 0)) (at + 3) (get_or bytes 3 0)) c.put-byte.ensures
-    ∙ ap (put c.args.image.now at) c.to-le-bytes-bytes.ensures
+    c.put_byte-else-at-image-3.ensures
+    ∙ ap (λ l. set l (at + 3) (get_or bytes 3 0)) c.put_byte-else-at-image-2.ensures
+    ∙ ap (λ l. set (set l (at + 2) (get_or bytes 2 0)) (at + 3) (get_or bytes 3 0)) c.put_byte-else-at-image.ensures
+    ∙ ap (λ l. set (set (set l (at + 1) (get_or bytes 1 0)) (at + 2) (get_or bytes 2 0)) (at + 3) (get_or bytes 3 0)) c.put_byte.ensures
+    ∙ ap (put c.args.image.now at) c.to_le_bytes-bytes.ensures
     ∙ written_four c.args.image.now small at c.args.x

@@ -24,7 +24,7 @@ returns c =
     let image = c.args.image.now in
     let small = window_small image (start / 8) x c.window-x.ensures in
     let e = whole_is x c.from.result code s n c.from.ensures small (omega arith) (omega arith) in
-    c.put-window.ensures
+    c.put_window.ensures
     ∙ ap (λ z. written 32 o z image) (e ∙ ap (λ z. joined z v s n) c.window-x.ensures)
     ∙ written_code image n start v (omega arith) (mod_below code (2 ^ n) (pow_pos n))
     ∙ written_mod image n start code

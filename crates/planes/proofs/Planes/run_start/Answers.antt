@@ -10,13 +10,13 @@ use Rattle.planes.proofs.Planes.run_start.Goals as goal
 meant : (t : Shape) (c : Component) (line o w : ℕ) → o ≡ offset t c → w ≡ columns t c → o + line * w ≡ offset t c + line * columns t c
 meant t c line o w p q = ap (λ z. z + line * w) p ∙ ap (λ z. offset t c + line * z) q
 
-pub overflow-add-result : goal.overflow-add-result
-overflow-add-result c =
+pub overflow_add-result : goal.overflow_add-result
+overflow_add-result c =
     let t = c.args.self.shape in
     omega (arith, meant t c.args.component c.args.line.0 _ _ c.offset.ensures c.columns.ensures, run_fits t c.args.line.0 c.requires c.args.component)
 
-pub overflow-mul-result-2 : goal.overflow-mul-result-2
-overflow-mul-result-2 c =
+pub overflow_mul-result-2 : goal.overflow_mul-result-2
+overflow_mul-result-2 c =
     let t = c.args.self.shape in
     omega (arith, meant t c.args.component c.args.line.0 _ _ c.offset.ensures c.columns.ensures, run_fits t c.args.line.0 c.requires c.args.component)
 

@@ -7,6 +7,6 @@ pub returns-in-OrderedPlanes : goal.returns-in-OrderedPlanes
 returns-in-OrderedPlanes c =
     let e = sym (ap layout_meaning c.in-OrderedPlanes.is) in
     record {
-      answer = c.read-line-in-OrderedPlanes.ensures.answer ∙ ap (λ m. line_answer m c.args.image.now c.args.line.0 c.args.codes.now) e;
-      codes = c.read-line-in-OrderedPlanes.ensures.codes ∙ ap (λ m. line_read m c.args.image.now c.args.line.0 c.args.codes.now) e;
+      answer = c.read_line-in-OrderedPlanes.ensures.answer ∙ ap (λ m. line_answer m c.args.image.now c.args.line.0 c.args.codes.now) e;
+      codes = c.read_line-in-OrderedPlanes.ensures.codes ∙ ap (λ m. line_read m c.args.image.now c.args.line.0 c.args.codes.now) e;
     }

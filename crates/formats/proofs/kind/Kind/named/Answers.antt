@@ -2,7 +2,7 @@ use Rattle.std.proofs.Common.{Err, ap, ◌∙◌}
 use Rattle.formats.proofs.Naming.{unnamed}
 use Rattle.formats.proofs.kind.Kind.named.Goals as goal
 
-pub returns-in-default : goal.returns-in-default
-returns-in-default c =
+pub returns-in_default : goal.returns-in_default
+returns-in_default c =
     ap Err c.of.ensures
-    ∙ unnamed _ c.in-default.not-text c.in-default.not-v308 c.in-default.not-v408 c.in-default.not-v216 c.in-default.not-v410 c.in-default.not-v210
+    ∙ unnamed _ c.in_default.not-text c.in_default.not-v308 c.in_default.not-v408 c.in_default.not-v216 c.in_default.not-v410 c.in_default.not-v210

@@ -20,8 +20,8 @@ set_fits k x h l = let low : k ≤ 7 = omega arith in let top : 2 ^ k ≤ 2 ^ 7 
 more : (k x : ℕ) (f : ℕ → Bool) (b : Bool) → k < 8 → x ≡ number k f → b ≡ f k → x + bit_value b * 2 ^ k ≡ number (k + 1) f
 more k x f b h e t = ap (λ z. z + bit_value b * 2 ^ k) e ∙ ap (λ z. number k f + bit_value z * 2 ^ k) t ∙ sym (number_more k f)
 
-pub overflow-add-byte : goal.overflow-add-byte
-overflow-add-byte g c =
+pub overflow_add-byte : goal.overflow_add-byte
+overflow_add-byte g c =
     let f = bits_from (g.Self.Layout.meaning c.args.self.now) c.args.at in
     let low : c.loop-k.byte < 2 ^ c.loop-k.k = omega (arith, c.loop-k.invariant, number_lt c.loop-k.k f) in
     record { fits = set_fits c.loop-k.k c.loop-k.byte (omega arith) low }
@@ -33,10 +33,10 @@ loop-k-preserved g c =
     elim c.if-fixed.branch [
       | then-fixed w ↦
           let shift : 1 * 2 ^ k % 256 ≡ 2 ^ k = one_shl k 8 (omega arith) in
-          let set : c.if-fixed.byte ≡ c.loop-k.byte + bit_value true * 2 ^ k = omega (arith, w.byte_is, shift) in
+          let set : c.if-fixed.byte ≡ c.loop-k.byte + bit_value true * 2 ^ k = omega (arith, w.byte-is, shift) in
           set ∙ more k c.loop-k.byte f true (omega arith) c.loop-k.invariant w.if-fixed.ensures.value
       | else-fixed w ↦
-          let kept : c.if-fixed.byte ≡ c.loop-k.byte + bit_value false * 2 ^ k = omega (arith, w.byte_is) in
+          let kept : c.if-fixed.byte ≡ c.loop-k.byte + bit_value false * 2 ^ k = omega (arith, w.byte-is) in
           kept ∙ more k c.loop-k.byte f false (omega arith) c.loop-k.invariant w.if-fixed.ensures.value
     ]
 

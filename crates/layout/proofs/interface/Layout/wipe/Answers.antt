@@ -13,7 +13,7 @@ byte m i = number 8 (λ k. m.fixed (8 * i + k))
 pub loop-i-preserved : goal.loop-i-preserved
 loop-i-preserved g c k h =
     let m = g.Self.Layout.meaning c.args.self.now in
-    ap (λ v. get_or (set c.loop-i.image c.loop-i.i v) k 0) c.fixed-byte.ensures
+    ap (λ v. get_or (set c.loop-i.image c.loop-i.i v) k 0) c.fixed_byte.ensures
     ∙ fill_by_more (byte m) c.loop-i.image c.loop-i.i 0 (omega arith) c.loop-i.invariant k h
 
 pub returns : goal.returns

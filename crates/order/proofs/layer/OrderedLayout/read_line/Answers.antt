@@ -8,8 +8,8 @@ returns g c =
     let m = g.L.Layout.meaning x.below in
     let image = c.args.image.now in
     let codes = c.args.codes.now in
-    let under = c.line-below-under.result in
+    let under = c.line_below-under.result in
     record {
-      answer = answer_handed x.order m image c.args.line under c.line-below-under.ensures (length codes) c.read-line.result c.read-line.ensures.answer;
-      codes = codes_handed x.order m image c.args.line under c.line-below-under.ensures codes c.read-line.new.codes c.read-line.ensures.codes;
+      answer = answer_handed x.order m image c.args.line under c.line_below-under.ensures (length codes) c.read_line.result c.read_line.ensures.answer;
+      codes = codes_handed x.order m image c.args.line under c.line_below-under.ensures codes c.read_line.new.codes c.read_line.ensures.codes;
     }

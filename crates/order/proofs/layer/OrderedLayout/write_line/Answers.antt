@@ -8,8 +8,8 @@ returns g c =
     let m = g.L.Layout.meaning x.below in
     let image = c.args.image.now in
     let codes = c.args.codes.now in
-    let under = c.line-below-under.result in
+    let under = c.line_below-under.result in
     record {
-      answer = answer_handed x.order m image c.args.line under c.line-below-under.ensures (length codes) c.write-line.result c.write-line.ensures.answer;
-      image = image_handed x.order m image c.args.line under c.line-below-under.ensures (g.met.L.Layout.lawful x.below) codes c.write-line.new.image c.write-line.ensures.image;
+      answer = answer_handed x.order m image c.args.line under c.line_below-under.ensures (length codes) c.write_line.result c.write_line.ensures.answer;
+      image = image_handed x.order m image c.args.line under c.line_below-under.ensures (g.met.L.Layout.lawful x.below) codes c.write_line.new.image c.write_line.ensures.image;
     }

@@ -13,10 +13,10 @@ fits t s o w there p q =
     ap (λ z. 32 * (z + (s.line.0 * w + s.column))) p ∙ ap (λ z. 32 * (offset t s.component + (s.line.0 * z + s.column))) q in
     omega (arith, meant, start_fits t s there)
 
-pub overflow-add-result-2 : goal.overflow-add-result-2
-overflow-add-result-2 c =
+pub overflow_add-result-2 : goal.overflow_add-result-2
+overflow_add-result-2 c =
     omega (arith, fits c.args.self.now.shape c.args.site _ _ (sym c.has.ensures ∙ c.if-not-has.false) c.offset.ensures c.columns-width.ensures)
 
-pub overflow-mul-result-2 : goal.overflow-mul-result-2
-overflow-mul-result-2 c =
+pub overflow_mul-result-2 : goal.overflow_mul-result-2
+overflow_mul-result-2 c =
     omega (arith, fits c.args.self.now.shape c.args.site _ _ (sym c.has.ensures ∙ c.if-not-has.false) c.offset.ensures c.columns-width.ensures)

@@ -1,3 +1,0 @@
-pub mod Laying
-pub mod Taking
-pub mod Sizing

@@ -1,7 +1,0 @@
-// Functions for C, by number and slice.
-mod back;
-mod lines;
-mod picture;
-#[cfg(test)]
-mod tests;
-pub mod v210;

@@ -1,4 +1,0 @@
-pub mod Testing
-pub mod Judging
-pub mod Blanking
-pub mod Coming

@@ -1,3 +1,0 @@
-pub mod Fitting
-pub mod Telling
-pub mod Writing
