@@ -81,3 +81,10 @@ module _ (t : Shape) (line : ℕ) where
 
 pub index_small : (t : Shape) (s : Site) → has t s ≡ true → index_of t s < line_count t
 index_small t s h = part_small (columns t) s.component s.column (has_parts t s h).0
+
+-- the codes of a component lie among those of the line
+pub count_fits : (t : Shape) (c : Component) → first_of t c + columns t c ≤ line_count t
+count_fits t Luma = omega arith
+count_fits t Cb = omega arith
+count_fits t Cr = omega arith
+count_fits t Alpha = omega arith

@@ -19,6 +19,10 @@ abbrev pub later : Option ℕ → Option ℕ → Option ℕ
 later (Some v) old = Some v
 later None old = old
 
+pub rewritten_length : (m : Meaning) (f : Site → Option ℕ) (image : List ℕ) → length (rewritten m f image) ≡ length image
+rewritten_length m f image =
+    length-map-range_with_len (λ i. number 8 (λ k. bit_written m f image (8 * i + k) (m.owner (8 * i + k)))) 0 (length image)
+
 module _ (m : Meaning) (laws : Lawful m) where
   -- ---- writes of any codes
   module _ (image : List ℕ) where
@@ -42,7 +46,7 @@ module _ (m : Meaning) (laws : Lawful m) where
     pub rewritten_twice : (f g : Site → Option ℕ) → rewritten m g (rewritten m f image) ≡ rewritten m (λ s. later (g s) (f s)) image
     rewritten_twice f g =
         let once : List ℕ = rewritten m f image in
-        ap (λ z. image_of z (λ b. bit_written m g once b (m.owner b))) (length-map-range_with_len (λ i. number 8 (λ k. bit_written m f image (8 * i + k) (m.owner (8 * i + k)))) 0 (length image))
+        ap (λ z. image_of z (λ b. bit_written m g once b (m.owner b))) (rewritten_length m f image)
         ∙ image_of_ext (length image) (λ b. bit_written m g once b (m.owner b)) (λ b. bit_written m (λ s. later (g s) (f s)) image b (m.owner b))
         (λ b l. at b (m.owner b) (bit_image_of (length image) (λ z. bit_written m f image z (m.owner z)) b l))
       where
@@ -107,3 +111,14 @@ located_held m image s = at (has m.shape s)
     at : (b : Bool) → read_where (width m) (cond b (Ok (m.start s)) (Err (refusal NoSite 0))) image ≡ cond b (code_of m image s) 0
     at true = refl
     at false = refl
+
+-- ---- one write after another
+module _ (m : Meaning) (laws : Lawful m) (image : List ℕ) where
+  -- writes that begin with none
+  pub begins : Bytes image → (f : Site → Option ℕ) → ((s : Site) → f s ≡ None) → image ≡ rewritten m f image
+  begins small f none = sym (rewritten_ext m laws image f (λ _. None) (λ s _. none s) ∙ rewritten_none m laws image small)
+
+  -- a write g after the writes f makes the writes h
+  pub goes_on : (now' after : List ℕ) (f g h : Site → Option ℕ) → ((s : Site) → has m.shape s ≡ true → later (g s) (f s) ≡ h s) → now' ≡ rewritten m f image → after ≡ rewritten m g now' → after ≡ rewritten m h image
+  goes_on now' after f g h e inv next =
+      next ∙ ap (rewritten m g) inv ∙ rewritten_twice m laws image f g ∙ rewritten_ext m laws image (λ s. later (g s) (f s)) h e

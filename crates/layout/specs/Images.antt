@@ -2,11 +2,13 @@
 use Rattle.std.specs.Prelude.{ℕ, ◌-◌, Bool, cond, ◌&&◌, List, map, length, Some, None, Option, ◌==◌, nat_lt, slice_index}
 use Rattle.std.specs.List.{range_with_len}
 use Rattle.image.specs.Bits.{bit_of, bit, code_at, image_of}
+use Rattle.samples.specs.declared.component.Component.{Component}
 use Rattle.samples.specs.declared.shape.Shape.{Shape}
 use Rattle.samples.specs.declared.site.Site.{Site}
+use Rattle.samples.specs.Codes.{rest_of}
 use Rattle.samples.specs.Components.{component_number}
 use Rattle.samples.specs.Shapes.{has}
-use Rattle.samples.specs.Lines.{line_count, index_of, site_at}
+use Rattle.samples.specs.Lines.{line_count, index_of, component_at, site_at}
 use Rattle.layout.specs.Meaning.{Meaning, width}
 
 -- the code of a site in an image
@@ -20,6 +22,25 @@ held m image s = cond (has m.shape s) (code_of m image s) 0
 -- the codes of a picture line that an image holds, in the order of a line
 abbrev pub line_held : Meaning → List ℕ → ℕ → List ℕ
 line_held m image l = map (λ i. held m image (site_at m.shape l i)) (range_with_len 0 (line_count m.shape))
+
+-- the image that holds given codes: a bit of a site's run is that of its code, any other has its fixed value
+abbrev pub bit_held : Meaning → (Site → ℕ) → ℕ → Option Site → Bool
+bit_held m codes b (Some s) = bit_of (codes s) (b - m.start s)
+bit_held m codes b None = m.fixed b
+
+abbrev pub holding : Meaning → (Site → ℕ) → List ℕ
+holding m codes = image_of m.size (λ b. bit_held m codes b (m.owner b))
+
+-- each site at its rest code
+abbrev pub resting : Shape → Site → ℕ
+resting t s = rest_of t.bits.count s.component
+
+-- the rest code at an index of a line
+abbrev pub rest_at : Shape → ℕ → ℕ
+rest_at t i = rest_of t.bits.count (component_at t i)
+
+abbrev pub blank : Meaning → List ℕ
+blank m = holding m (resting m.shape)
 
 -- an image with no codes: each fixed bit at its value, every other bit 0
 abbrev pub wiped : Meaning → List ℕ
@@ -44,6 +65,19 @@ same_site a b =
 
 abbrev pub only : Site → ℕ → Site → Option ℕ
 only s v z = cond (same_site s z) (Some v) None
+
+-- whether two components are one
+abbrev pub same_component : Component → Component → Bool
+same_component a b = component_number a == component_number b
+
+-- a new code at every site of a component
+abbrev pub filled : Component → ℕ → Site → Option ℕ
+filled c v s = cond (same_component c s.component) (Some v) None
+
+-- at its first n columns on picture line l alone
+abbrev pub filled_row : Component → ℕ → ℕ → ℕ → Site → Option ℕ
+filled_row c v l n s =
+    cond (same_component c s.component && (s.line.0 == l && nat_lt s.column n)) (Some v) None
 
 -- the codes of picture line l, each at its site
 abbrev pub laid : Shape → ℕ → List ℕ → Site → Option ℕ

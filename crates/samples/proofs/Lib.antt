@@ -1,3 +1,4 @@
 pub mod Timing
 pub mod Dividing
 pub mod Bounded
+pub mod Columns

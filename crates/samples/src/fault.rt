@@ -17,6 +17,12 @@ pub enum Rule {
     NoSite,
     // A line has the wrong count of codes.
     CodeCount,
+    // The component does not admit a code.
+    CodeNotAdmitted,
+    // A line is laid when every line has come.
+    EveryLineCome,
+    // A code is put on a line that has not come.
+    LineNotCome,
 }
 
 // A refusal in plain numbers. Only `Fault::of` builds one, so that a new field touches one place.
@@ -40,6 +46,9 @@ impl Fault {
             Rule::ImageLength => (11, 1),
             Rule::NoSite => (12, 2),
             Rule::CodeCount => (13, 2),
+            Rule::CodeNotAdmitted => (15, 2),
+            Rule::EveryLineCome => (31, 3),
+            Rule::LineNotCome => (32, 3),
         };
         Fault {
             number,

@@ -1,0 +1,4 @@
+pub mod Testing
+pub mod Judging
+pub mod Blanking
+pub mod Coming

@@ -1,0 +1,55 @@
+// Writing one code at every site of a component.
+ghost use Rattle.std.specs.Prelude.{◌≡◌, ◌<◌, true};
+ghost use Rattle.samples.specs.Shapes.{columns, has};
+ghost use Rattle.layout.specs.Images.{rewritten, only, filled, filled_row};
+
+use image::write_code;
+use layout::interface::{Layout, shape_of};
+use samples::component::Component;
+use samples::lines::PictureLine;
+use samples::site::Site;
+
+// Writes a code at a site that the shape has.
+fn write_site<L: Layout>(layout: &L, image: &mut [u8], site: Site, code: u16)
+    requires { has (L.Layout.meaning layout.now).shape site ≡ true }
+    ensures { image.new ≡ rewritten (L.Layout.meaning layout.now) (only site code) image.old }
+{
+    if let Ok(start) = layout.locate(site) {
+        write_code(image, start, shape_of(layout).bits.count, code);
+    }
+}
+
+// Writes a code at every column of a component on a line.
+fn fill_row<L: Layout>(
+    layout: &L,
+    image: &mut [u8],
+    component: Component,
+    line: PictureLine,
+    code: u16,
+)
+    requires { line.0 < (L.Layout.meaning layout.now).shape.size.height }
+    ensures { image.new ≡ rewritten (L.Layout.meaning layout.now) (filled_row component code line.0 (columns (L.Layout.meaning layout.now).shape component)) image.old }
+{
+    for column in 0..shape_of(layout).columns(component) {
+        let site = Site {
+            component,
+            column,
+            line,
+        };
+        write_site(layout, image, site, code);
+    }
+}
+
+// Writes a code at every site of a component.
+pub(crate) fn fill_component<L: Layout>(
+    layout: &L,
+    image: &mut [u8],
+    component: Component,
+    code: u16,
+)
+    ensures { image.new ≡ rewritten (L.Layout.meaning layout.now) (filled component code) image.old }
+{
+    for line in 0..shape_of(layout).size.height {
+        fill_row(layout, image, component, PictureLine(line), code);
+    }
+}

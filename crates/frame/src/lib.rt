@@ -1,0 +1,7 @@
+// Frames over any layout.
+#![tactic(auto)]
+
+mod admit;
+mod blank;
+mod fill;
+pub mod making;
