@@ -1,9 +1,9 @@
 // What the tests begin with.
 use anypacking::packings::AnyPacking;
-use samples::fault::Fault;
 use frame::making::Making;
 use order::layer::Ordered;
 use samples::component::Component;
+use samples::fault::Fault;
 use samples::lines::PictureLine;
 use samples::site::Site;
 use std::test::Fail;
