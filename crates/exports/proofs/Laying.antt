@@ -1,5 +1,5 @@
 -- Lines laid one after the other.
-use Rattle.std.proofs.Common.{◌≡◌, ℕ, suc, ◌+◌, ◌-◌, ◌*◌, ◌<◌, ◌≤◌, Bool, true, false, cond, eqb, ltb, List, length, take, drop, Some, None, Ok, Err, Option, Result, sym, refl, ap, ◌∙◌, mul-le-mul_right, suc-mul, add-one, arith}
+use Rattle.std.proofs.Common.{◌≡◌, ℕ, ◌+◌, ◌-◌, ◌*◌, ◌<◌, ◌≤◌, Bool, true, false, cond, eqb, ltb, List, length, take, drop, Some, None, Ok, Err, Option, Result, sym, refl, ap, ◌∙◌, mul-le-mul_right, suc-mul, add-one, arith}
 use Rattle.samples.specs.declared.fault.Fault.{Fault}
 use Rattle.samples.specs.declared.fault.Rule.TheVariants.{ImageLength, CodeCount, EveryLineCome}
 use Rattle.samples.specs.Faults.{refusal}

@@ -1,10 +1,9 @@
 -- Codes taken back in the order of the lines.
-use Rattle.std.proofs.Common.{◌≡◌, ℕ, ◌+◌, ◌-◌, ◌*◌, ◌/◌, ◌%◌, ◌<◌, List, get_or, set, Result, sym, ap, ◌∙◌, add_assoc, arith}
+use Rattle.std.proofs.Common.{◌≡◌, ℕ, ◌+◌, ◌-◌, ◌*◌, ◌/◌, ◌%◌, ◌<◌, Result, sym, ap, ◌∙◌, add_assoc, arith}
 use lib.Arith.{digits_div, digits_mod}
 use Rattle.samples.specs.declared.component.Component.{Component}
 use Rattle.samples.specs.declared.fault.Fault.{Fault}
 use Rattle.samples.specs.declared.shape.Shape.{Shape}
-use Rattle.samples.specs.declared.site.Site.{Site}
 use Rattle.samples.specs.Lines.{first_of, line_count, component_at, site_of, site_at}
 use Rattle.samples.specs.Shapes.{columns}
 use Rattle.samples.proofs.Dividing.{part_here, part_small}

@@ -1,5 +1,5 @@
 -- Worked figures of the definitions that the contracts cite.
-use Rattle.std.specs.Prelude.{◌≡◌, true, false, ℕ}
+use Rattle.std.specs.Prelude.{◌≡◌, true, false}
 use Rattle.samples.specs.declared.bounds.Size.{Size}
 use Rattle.samples.specs.declared.component.Component.TheVariants.{Luma, Cb, Cr, Alpha}
 use Rattle.samples.specs.Codes.{admits}

@@ -1,11 +1,11 @@
 -- The test of a table turned into the fact at each run and bit: the one proof that runs are disjoint.
-use Rattle.std.specs.Prelude.{◌≡◌, ℕ, zero, suc, ◌+◌, ◌-◌, ◌*◌, ◌<◌, ◌≤◌, Bool, true, false, cond, ◌&&◌, List, [], ◌∷◌, length, Some, None, Option, nat_le, nat_lt, slice_index, slice_index_or, refl}
-use Rattle.std.proofs.Common.{sym, ap, subst, ◌∙◌, ⊎_elim, zero-add, arith}
-use Rattle.std.proofs.lemmas.Bool.{cases_lt, cases_Bool, both_ways, and_parts, eqb-true, ltb-true, leb-true, cond-true, cond-false}
+use Rattle.std.specs.Prelude.{◌≡◌, ℕ, zero, suc, ◌+◌, ◌-◌, ◌*◌, ◌<◌, ◌≤◌, Bool, true, false, List, [], ◌∷◌, length, Some, None, Option, nat_le, nat_lt, slice_index, slice_index_or}
+use Rattle.std.proofs.Common.{sym, ap, ◌∙◌, ⊎_elim, arith}
+use Rattle.std.proofs.lemmas.Bool.{cases_lt, cases_Bool, and_parts, eqb-true, ltb-true, leb-true, cond-true, cond-false}
 use Rattle.samples.specs.declared.component.Component.{Component}
 use Rattle.samples.specs.Parts.{before, whole, part_at}
 use Rattle.samples.proofs.Dividing.{part_here, part_small}
-use Rattle.formats.specs.Packing.{Packing, Proper, runs, start_in, covers, holder_from, holder, all_below, is_run, run_apart, all_apart}
+use Rattle.formats.specs.Packing.{Packing, Proper, runs, start_in, covers, holder_from, holder, all_below, is_run, run_apart}
 use Rattle.formats.specs.Formats.{RunsApart}
 
 none_below : (k : ℕ) → k < 0 → ⊥

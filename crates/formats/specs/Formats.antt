@@ -1,5 +1,5 @@
 -- The six types of packing.
-use Rattle.std.specs.Prelude.{◌≡◌, ℕ, ◌+◌, ◌-◌, ◌*◌, ◌/◌, ◌<◌, Bool, true, false, List, [], ◌∷◌, ◌==◌}
+use Rattle.std.specs.Prelude.{◌≡◌, ℕ, ◌+◌, ◌-◌, ◌*◌, ◌/◌, ◌<◌, Bool, true, false, [], ◌∷◌, ◌==◌}
 use Rattle.std.proofs.Common.{arith}
 use Rattle.samples.specs.declared.bounds.Bits.{Bits}
 use Rattle.samples.specs.declared.component.Component.{Component}

@@ -1,5 +1,5 @@
 -- Packings of plain numbers.
-use Rattle.std.specs.Prelude.{ℕ, cond, List, Ok, Err, Result}
+use Rattle.std.specs.Prelude.{ℕ, cond, Ok, Err, Result}
 use Rattle.samples.specs.declared.fault.Fault.{Fault}
 use Rattle.samples.specs.declared.fault.Rule.TheVariants.{Content}
 use Rattle.samples.specs.Faults.{refusal}

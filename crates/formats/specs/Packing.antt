@@ -1,11 +1,11 @@
 -- A type of packing: its figures, and the table of runs within a group.
-use Rattle.std.specs.Prelude.{◌≡◌, ℕ, zero, suc, ◌+◌, ◌-◌, ◌*◌, ◌/◌, ◌%◌, ◌<◌, ◌≤◌, Bool, true, false, cond, ◌&&◌, List, [], ◌∷◌, length, Some, None, Option, ◌==◌, nat_le, nat_lt, slice_index}
+use Rattle.std.specs.Prelude.{◌≡◌, ℕ, zero, suc, ◌+◌, ◌*◌, ◌/◌, ◌%◌, ◌<◌, ◌≤◌, Bool, true, false, cond, ◌&&◌, List, [], ◌∷◌, length, Some, None, Option, ◌==◌, nat_le, nat_lt, slice_index}
 use Rattle.samples.specs.declared.bounds.Bits.{Bits}
 use Rattle.samples.specs.declared.component.Component.{Component}
 use Rattle.samples.specs.declared.component.Component.TheVariants.{Luma, Cb, Cr, Alpha}
 use Rattle.samples.specs.declared.shape.Chroma.{Chroma}
 use Rattle.samples.specs.declared.shape.Chroma.TheVariants.{Half, Full}
-use Rattle.samples.specs.Parts.{before, whole, part_at}
+use Rattle.samples.specs.Parts.{before, whole}
 use Rattle.samples.specs.Shapes.{chroma_columns}
 use Rattle.formats.specs.declared.format.Figures.{Figures}
 

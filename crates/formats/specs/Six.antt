@@ -1,10 +1,10 @@
 -- The six types are proper.
-use Rattle.std.specs.Prelude.{◌≡◌, ℕ, ◌+◌, ◌*◌, ◌/◌, ◌%◌, ◌<◌, ◌≤◌, Bool, true, false, ◌||◌, ◌⊎◌, ◌==◌, refl}
+use Rattle.std.specs.Prelude.{◌≡◌, ℕ, ◌≤◌, Bool, true, false, ◌||◌, ◌⊎◌, ◌==◌, refl}
 use Rattle.std.proofs.Common.{sym, subst, inl, inr, arith}
 use Rattle.std.proofs.lemmas.Bool.{eqb-true}
 use Rattle.samples.specs.declared.bounds.Bits.{Bits}
 use Rattle.samples.proofs.Bounded.{same_bits}
-use Rattle.formats.specs.Packing.{Packing, Proper, all_apart}
+use Rattle.formats.specs.Packing.{Proper, all_apart}
 use Rattle.formats.specs.Formats.{p_2vuy, p_v308, p_v408, p_v216, p_v410, p_v210}
 use Rattle.formats.specs.Wide.{v216_width}
 

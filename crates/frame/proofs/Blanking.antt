@@ -1,17 +1,16 @@
 -- An image blanked: wiped, then one line at rest written to every picture line.
-use Rattle.std.proofs.Common.{◌≡◌, ℕ, ◌+◌, ◌<◌, Bool, true, false, cond, eqb, List, map, length, get_or, Ok, Err, Result, sym, ap, ◌∙◌, ⊎_elim, zero-add, arith}
+use Rattle.std.proofs.Common.{◌≡◌, ℕ, ◌+◌, ◌<◌, Bool, true, false, eqb, List, map, length, get_or, Ok, Err, sym, ap, ◌∙◌, ⊎_elim, zero-add}
 use Rattle.std.specs.List.{range_with_len}
 use Rattle.std.proofs.lemmas.List.FromFn.{length-map-range_with_len, get_or-map-range_with_len}
 use Rattle.std.proofs.lemmas.Bool.{cases_Bool, eqb-true, cond-false}
 use Rattle.image.proofs.Images.{length_image_of, bytes_image}
-use Rattle.samples.specs.declared.fault.Fault.{Fault}
 use Rattle.samples.specs.declared.fault.Rule.TheVariants.{ImageLength}
 use Rattle.samples.specs.declared.shape.Shape.{Shape}
 use Rattle.samples.specs.Faults.{refusal}
 use Rattle.samples.specs.Lines.{line_count}
 use Rattle.layout.specs.Images.{rewritten, wiped, laid, rest_at, blank}
 use Rattle.layout.specs.Meaning.{Meaning, Lawful}
-use Rattle.layout.specs.Tests.{wipe_answer, wipe_image, line_answer, line_written}
+use Rattle.layout.specs.Tests.{wipe_answer, wipe_image, line_written}
 use Rattle.layout.proofs.Filling.{rested, rested_more, rested_none, rested_all}
 use Rattle.layout.proofs.Testing.{sized_passed, line_passed}
 use Rattle.layout.proofs.Writing.{rewritten_length, begins, goes_on}

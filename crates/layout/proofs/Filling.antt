@@ -1,5 +1,5 @@
 -- Writes one after another: a component filled column by column and line by line, and an image blanked line by line.
-use Rattle.std.proofs.Common.{◌≡◌, ℕ, ◌+◌, ◌<◌, ◌≤◌, Bool, true, false, cond, ◌&&◌, ◌||◌, eqb, ltb, List, get_or, Some, None, Option, sym, refl, ap, ◌∙◌, ⊎_elim, arith}
+use Rattle.std.proofs.Common.{◌≡◌, ℕ, ◌+◌, ◌<◌, Bool, true, false, cond, ◌&&◌, ◌||◌, eqb, ltb, List, get_or, Some, None, Option, sym, refl, ap, ◌∙◌, ⊎_elim, arith}
 use Rattle.std.proofs.lemmas.Bool.{cases_order, and_right, ne_eqb, eq-eqb, eqb-true, lt-ltb, le-ltb}
 use Rattle.samples.specs.declared.component.Component.{Component}
 use Rattle.samples.specs.declared.shape.Shape.{Shape}

@@ -1,8 +1,8 @@
 -- What follows from a layout's laws.
-use Rattle.std.proofs.Common.{◌≡◌, ℕ, ◌+◌, ◌*◌, ◌<◌, ◌≤◌, true, Some, None, Option, sym, ap, ◌∙◌, arith}
+use Rattle.std.proofs.Common.{◌≡◌, ℕ, ◌+◌, ◌*◌, ◌<◌, ◌≤◌, true, Some, None, Option, ap, ◌∙◌, arith}
 use Rattle.samples.specs.declared.site.Site.{Site}
 use Rattle.samples.specs.Shapes.{has}
-use Rattle.layout.specs.Meaning.{Meaning, Lawful, width, NoBitShared}
+use Rattle.layout.specs.Meaning.{Meaning, width, NoBitShared}
 
 pub apart : (o : Option Site) (s : Site) → o ≡ Some s → o ≡ None → ⊥
 apart o s p q = let z : ◌≡◌ {A = ℕ} 0 1 = cc in omega arith

@@ -1,5 +1,5 @@
 -- A line's codes written one after the other.
-use Rattle.std.proofs.Common.{◌≡◌, ℕ, ◌+◌, ◌<◌, ◌≤◌, Bool, true, false, cond, ◌&&◌, eqb, ltb, List, length, get_or, Some, None, Option, sym, refl, ap, ◌∙◌, subst, ⊎_elim, arith}
+use Rattle.std.proofs.Common.{◌≡◌, ℕ, ◌+◌, ◌<◌, Bool, true, false, cond, ◌&&◌, eqb, ltb, List, get_or, Some, None, Option, sym, refl, ap, ◌∙◌, subst, ⊎_elim, arith}
 use Rattle.std.proofs.lemmas.Bool.{cases_Bool, cases_order, both_ways, and_from, and_left, and_right, eqb-true, eq-eqb, lt-ltb, le-ltb, cond-true, cond-false}
 use Rattle.image.proofs.Images.{Bytes}
 use Rattle.samples.specs.declared.shape.Shape.{Shape}

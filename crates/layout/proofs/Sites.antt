@@ -1,5 +1,5 @@
 -- Sites and the indices of their codes in a line.
-use Rattle.std.proofs.Common.{◌≡◌, ℕ, ◌+◌, ◌-◌, ◌<◌, ◌≤◌, Bool, true, false, cond, ◌&&◌, eqb, ltb, sym, refl, ap, ◌∙◌, subst, arith}
+use Rattle.std.proofs.Common.{◌≡◌, ℕ, ◌+◌, ◌-◌, ◌<◌, ◌≤◌, true, cond, ◌&&◌, eqb, ltb, sym, refl, ap, ◌∙◌, subst, arith}
 use Rattle.std.proofs.lemmas.Bool.{and_parts, and_from, eqb-true, eq-eqb, ltb-true, lt-ltb}
 use Rattle.samples.specs.declared.component.Component.{Component}
 use Rattle.samples.specs.declared.component.Component.TheVariants.{Luma, Cb, Cr, Alpha}
@@ -7,7 +7,7 @@ use Rattle.samples.specs.declared.shape.Shape.{Shape}
 use Rattle.samples.specs.declared.site.Site.{Site}
 use Rattle.samples.specs.Components.{component_number}
 use Rattle.samples.specs.Shapes.{columns, has}
-use Rattle.samples.specs.Lines.{first_of, line_count, index_of, site_of, component_at, site_at}
+use Rattle.samples.specs.Lines.{first_of, line_count, index_of, site_of, site_at}
 use Rattle.samples.proofs.Dividing.{part_here, part_small, split_part}
 use Rattle.layout.specs.Images.{same_site}
 

@@ -1,7 +1,7 @@
 -- The codes that an accepted call writes fit their bits.
-use Rattle.std.proofs.Common.{◌≡◌, ℕ, zero, suc, ◌+◌, ◌-◌, ◌*◌, ◌^◌, ◌<◌, ◌≤◌, Bool, true, false, cond, ◌&&◌, ltb, leb, List, get_or, Some, None, Option, sym, refl, ap, ◌∙◌, ⊎_elim, arith, pow-add}
+use Rattle.std.proofs.Common.{◌≡◌, ℕ, zero, suc, ◌-◌, ◌*◌, ◌^◌, ◌<◌, ◌≤◌, Bool, true, false, cond, ltb, leb, List, get_or, Some, None, Option, refl, ap, ◌∙◌, ⊎_elim, arith, pow-add}
 use Rattle.std.proofs.lemmas.Nat.{pow_pos}
-use Rattle.std.proofs.lemmas.Bool.{cases_Bool, cases_lt, and_parts, ltb-true, cond-true, cond-false}
+use Rattle.std.proofs.lemmas.Bool.{cases_lt, and_parts, ltb-true}
 use Rattle.samples.specs.declared.component.Component.{Component}
 use Rattle.samples.specs.declared.component.Component.TheVariants.{Luma, Cb, Cr, Alpha}
 use Rattle.samples.specs.declared.shape.Shape.{Shape}
@@ -11,7 +11,7 @@ use Rattle.samples.specs.Lines.{line_count, index_of, component_at}
 use Rattle.samples.specs.Shapes.{has}
 use Rattle.layout.specs.Images.{resting, same_component, same_site}
 use Rattle.layout.proofs.Sites.{index_small}
-use Rattle.frame.specs.Calls.{Call, lay, put, fill, restart, take, admitted_at, or_else, first_failing, time_of, writes}
+use Rattle.frame.specs.Calls.{Call, lay, put, fill, restart, take, admitted_at, or_else, first_failing, writes}
 use Rattle.frame.proofs.Testing.{Passed}
 
 -- ---- codes

@@ -1,7 +1,6 @@
 -- Where a call writes, in words and by its definition.
-use Rattle.std.proofs.Common.{◌≡◌, ℕ, Bool, true, false, cond, eqb, List, get_or, Some, None, Option, sym, refl, ap, ◌∙◌, subst, ⊎_elim}
+use Rattle.std.proofs.Common.{◌≡◌, ℕ, Bool, true, false, cond, eqb, get_or, Some, None, sym, refl, ap, ◌∙◌, subst, ⊎_elim}
 use Rattle.std.proofs.lemmas.Bool.{cases_Bool, eqb-true, eq-eqb, cond-true, cond-false}
-use Rattle.samples.specs.declared.component.Component.{Component}
 use Rattle.samples.specs.declared.shape.Shape.{Shape}
 use Rattle.samples.specs.declared.site.Site.{Site}
 use Rattle.samples.specs.Components.{component_number}

@@ -1,20 +1,19 @@
 -- The laws of one write, from a layout's laws alone.
-use Rattle.std.proofs.Common.{◌≡◌, ℕ, ◌*◌, ◌^◌, ◌<◌, Bool, true, false, cond, eqb, ◌⊎◌, List, length, Some, None, Ok, Err, Option, Result, sym, refl, ap, ◌∙◌, subst, inl, inr, ⊎_elim, arith}
+use Rattle.std.proofs.Common.{◌≡◌, ℕ, ◌*◌, ◌<◌, true, false, eqb, ◌⊎◌, List, length, None, Ok, Err, sym, refl, ap, ◌∙◌, inl, inr, ⊎_elim, arith}
 use Rattle.std.proofs.lemmas.Bool.{cases_Bool, ne_eqb, cond-true, cond-false}
 use Rattle.image.specs.Bits.{bit}
 use Rattle.image.proofs.Images.{length_image_of}
 use Rattle.samples.specs.declared.fault.Fault.{Fault}
 use Rattle.samples.specs.declared.fault.Rule.TheVariants.{NoSite}
-use Rattle.samples.specs.declared.shape.Shape.{Shape}
 use Rattle.samples.specs.declared.site.Site.{Site}
 use Rattle.samples.specs.Faults.{refusal}
 use Rattle.samples.specs.Shapes.{has}
 use Rattle.layout.specs.Images.{code_of, bit_held, resting, blank}
-use Rattle.layout.specs.Meaning.{Meaning, Lawful, width}
+use Rattle.layout.specs.Meaning.{Meaning, Lawful}
 use Rattle.layout.proofs.Holding.{or_old, code_holding, code_rewritten, bit_rewritten, bit_holding}
 use Rattle.layout.proofs.Testing.{sized_passed}
 use Rattle.layout.proofs.Writing.{rewritten_length}
-use Rattle.frame.specs.Calls.{Call, lay, put, fill, restart, take, writes, left, lines, answer, answered, image_after, lines_after, blanked}
+use Rattle.frame.specs.Calls.{Call, lay, put, fill, restart, take, writes, left, answer, image_after, lines_after, blanked}
 use Rattle.onewrite.specs.Laws.{taken, taken_after, Writes, Accepted, Refused, OneWrite, OneBegin, LawsOfOneWrite}
 use Rattle.frame.proofs.Testing.{Passed, called_both}
 use Rattle.onewrite.proofs.Fitting.{rests_fit, writes_fit}

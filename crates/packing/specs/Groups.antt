@@ -13,10 +13,10 @@ use Rattle.samples.specs.declared.shape.Chroma.{Chroma}
 use Rattle.samples.specs.declared.shape.Chroma.TheVariants.{Half, Full}
 use Rattle.samples.specs.declared.site.Site.{Site}
 use Rattle.samples.specs.Lines.{site_of}
-use Rattle.samples.specs.Parts.{before, whole, part_at}
+use Rattle.samples.specs.Parts.{before, part_at}
 use Rattle.samples.specs.Shapes.{chroma_columns, columns, has}
 use Rattle.samples.proofs.Dividing.{part_here, part_holds}
-use Rattle.layout.specs.Meaning.{Meaning, Lawful}
+use Rattle.layout.specs.Meaning.{Lawful}
 use Rattle.layout.proofs.Sites.{has_parts}
 use Rattle.layout.proofs.Following.{unowned}
 use Rattle.formats.specs.declared.format.Figures.{Figures}

@@ -1,5 +1,5 @@
 -- The bits and bytes of a word with no code.
-use Rattle.std.specs.Prelude.{◌≡◌, ℕ, ◌+◌, ◌*◌, ◌/◌, ◌%◌, ◌^◌, ◌<◌, Bool, false, ◌≢◌, Some, None, Option, nat_eq, refl}
+use Rattle.std.specs.Prelude.{◌≡◌, ℕ, ◌+◌, ◌*◌, ◌/◌, ◌%◌, ◌^◌, ◌<◌, Bool, false, ◌≢◌, Some, None, Option, nat_eq}
 use Rattle.std.proofs.Common.{sym, ap, ◌∙◌, zero-add, arith, lit<}
 use Rattle.std.proofs.lemmas.Nat.{shr_le}
 use Rattle.samples.specs.declared.component.Component.{Component}

@@ -1,5 +1,5 @@
 -- A line of colour bars at 10 bits, eight of one width.
-use Rattle.std.specs.Prelude.{ℕ, ◌-◌, ◌*◌, ◌/◌, Bool, cond, not, ◌&&◌, List, [], ◌∷◌, ◌==◌, slice_index}
+use Rattle.std.specs.Prelude.{ℕ, ◌-◌, ◌*◌, ◌/◌, Bool, cond, not, List, [], ◌∷◌, ◌==◌, slice_index}
 use Rattle.samples.specs.declared.component.Component.{Component}
 use Rattle.samples.specs.declared.component.Component.TheVariants.{Luma, Cb, Cr, Alpha}
 use Rattle.samples.specs.declared.shape.Shape.{Shape}

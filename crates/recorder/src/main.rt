@@ -105,7 +105,9 @@ fn record(rt: &HostRuntime, layout: Recorder) -> anyhow::Result<()> {
 }
 
 fn run(rt: &HostRuntime) -> anyhow::Result<()> {
-    println!(rt; "recorder: a recorder's frame in v210, bottom field first, stored field by field")?;
+    println!(rt;
+        "recorder: a recorder's frame in v210, bottom field first, stored field by field"
+    )?;
     let layout = recorder(rt)?;
     show::shape(rt, layout.shape())?;
     sites(rt, &layout)?;

@@ -3,7 +3,7 @@ use Rattle.std.proofs.lemmas.List.Edits.{fill_by_more}
 use Rattle.samples.specs.declared.shape.Shape.{Shape}
 use Rattle.samples.specs.Lines.{first_of, line_count}
 use Rattle.samples.specs.Shapes.{columns}
-use Rattle.exports.specs.Frames.{Frame, code_count, code_or_0, code_back}
+use Rattle.exports.specs.Frames.{Frame, code_or_0, code_back}
 use Rattle.exports.proofs.Taking.{place, place_low, code_here}
 use Rattle.exports.proofs.back.take_row.Goals as goal
 use Rattle.exports.proofs.back.take_row.Goals.{in-Ok, in-Err}

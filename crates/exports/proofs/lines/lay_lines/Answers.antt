@@ -1,4 +1,4 @@
-use Rattle.std.proofs.Common.{◌≡◌, ℕ, ◌+◌, ◌-◌, ◌*◌, ◌≤◌, List, length, take, drop, sym, refl, ap, ◌∙◌, subst, arith, rules}
+use Rattle.std.proofs.Common.{◌≡◌, ℕ, ◌+◌, ◌-◌, ◌*◌, ◌≤◌, List, length, take, drop, sym, ap, ◌∙◌, subst, arith, rules}
 use Rattle.samples.specs.declared.shape.Shape.{Shape}
 use Rattle.samples.specs.Lines.{line_count}
 use Rattle.frame.specs.Calls.{lay, answered, image_after, lines_after}

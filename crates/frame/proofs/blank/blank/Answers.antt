@@ -1,7 +1,7 @@
-use Rattle.std.proofs.Common.{◌≡◌, ℕ, ◌<◌, map, length, Ok, Err, sym, ap, ◌∙◌, arith}
+use Rattle.std.proofs.Common.{◌≡◌, ◌<◌, map, Ok, Err, sym, ap, ◌∙◌, arith}
 use Rattle.std.specs.List.{range_with_len}
 use Rattle.samples.specs.Lines.{line_count}
-use Rattle.layout.specs.Images.{rest_at, wiped}
+use Rattle.layout.specs.Images.{rest_at}
 use Rattle.layout.proofs.Testing.{sized_passed}
 use Rattle.frame.proofs.Blanking.{wiped_length, wiped_is, blank_is, none_rested, line_rested, all_rested}
 use Rattle.frame.proofs.blank.blank.Goals as goal

@@ -1,4 +1,4 @@
-use Rattle.std.proofs.Common.{◌≡◌, ℕ, ◌+◌, ◌<◌, ap, ◌∙◌, arith, rules}
+use Rattle.std.proofs.Common.{◌≡◌, ◌+◌, ap, ◌∙◌, arith, rules}
 use Rattle.image.proofs.Images.{Bytes}
 use Rattle.samples.specs.Shapes.{columns}
 use Rattle.layout.specs.Images.{rewritten, filled, filled_row}

@@ -1,10 +1,9 @@
-use Rattle.std.proofs.Common.{◌≡◌, ℕ, ◌+◌, ◌<◌, true, ap, ◌∙◌, arith, rules}
+use Rattle.std.proofs.Common.{◌≡◌, ◌+◌, ap, ◌∙◌, arith, rules}
 use Rattle.image.proofs.Images.{Bytes}
 use Rattle.samples.specs.Lines.{site_of}
-use Rattle.samples.specs.Shapes.{columns, has}
+use Rattle.samples.specs.Shapes.{columns}
 use Rattle.layout.specs.Images.{rewritten, only, filled_row}
 use Rattle.layout.proofs.Filling.{row_more, row_none}
-use Rattle.layout.proofs.Sites.{has_from}
 use Rattle.layout.proofs.Writing.{begins, goes_on}
 use Rattle.frame.proofs.fill.fill_row.Goals as goal
 

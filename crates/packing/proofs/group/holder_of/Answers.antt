@@ -1,4 +1,4 @@
-use Rattle.std.proofs.Common.{◌≡◌, ◌+◌, ◌<◌, ◌≤◌, length, sym, ◌∙◌, arith}
+use Rattle.std.proofs.Common.{◌≡◌, ◌+◌, length, sym, ◌∙◌, arith}
 use Rattle.packing.proofs.Holding.{holder_here, holder_later, holder_never, counted, tested}
 use Rattle.packing.proofs.group.holder_of.Goals as goal
 

@@ -1,4 +1,4 @@
-use Rattle.std.proofs.Common.{◌≡◌, ℕ, ◌+◌, ◌*◌, ◌≤◌, ap, ◌∙◌, arith}
+use Rattle.std.proofs.Common.{◌≡◌, ℕ, ◌+◌, ◌*◌, ap, ◌∙◌, arith}
 use Rattle.samples.specs.declared.component.Component.{Component}
 use Rattle.samples.specs.declared.shape.Shape.{Shape}
 use Rattle.samples.specs.Shapes.{columns}

@@ -1,4 +1,4 @@
-use Rattle.std.proofs.Common.{◌≡◌, ℕ, ◌+◌, ◌*◌, ◌<◌, List, length, get_or, sym, refl, ap, ◌∙◌, add-zero, arith}
+use Rattle.std.proofs.Common.{ℕ, ◌+◌, ◌*◌, List, get_or, sym, ap, ◌∙◌, arith}
 use Rattle.image.specs.Bits.{written, width}
 use Rattle.layout.specs.Images.{rewritten, laid_below}
 use Rattle.planes.specs.Words.{plane_words}

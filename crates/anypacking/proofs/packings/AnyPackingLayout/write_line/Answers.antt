@@ -1,5 +1,4 @@
-use Rattle.std.proofs.Common.{◌≡◌, ℕ, List, sym, ap, ◌∙◌}
-use Rattle.layout.specs.Meaning.{Meaning}
+use Rattle.std.proofs.Common.{sym, ap, ◌∙◌}
 use Rattle.layout.specs.Tests.{line_answer, line_written}
 use Rattle.anypacking.specs.Packings.{packing_meaning}
 use Rattle.anypacking.proofs.packings.AnyPackingLayout.write_line.Goals as goal

@@ -1,7 +1,7 @@
-use Rattle.std.proofs.Common.{◌≡◌, ℕ, ◌<◌, List, length, get_or, Ok, Err, sym, ap, ◌∙◌, arith, rules}
+use Rattle.std.proofs.Common.{◌≡◌, ◌<◌, length, get_or, Ok, Err, sym, ap, ◌∙◌, arith, rules}
 use Rattle.image.proofs.Images.{Bytes}
 use Rattle.samples.specs.Lines.{line_count, site_at}
-use Rattle.layout.specs.Meaning.{Meaning, located}
+use Rattle.layout.specs.Meaning.{located}
 use Rattle.layout.specs.Images.{rewritten, laid}
 use Rattle.layout.specs.Reach.{written_where}
 use Rattle.layout.proofs.Laying.{line_begun, line_step, line_ended}

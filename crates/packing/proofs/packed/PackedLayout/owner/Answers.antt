@@ -1,4 +1,4 @@
-use Rattle.std.proofs.Common.{◌≡◌, ◌*◌, ◌%◌, Some, sym, ap, ◌∙◌, arith}
+use Rattle.std.proofs.Common.{◌≡◌, ◌*◌, ◌%◌, Some, sym, ◌∙◌, arith}
 use Rattle.formats.specs.Packing.{holder}
 use Rattle.packing.specs.Groups.{column_fits, held_number}
 use Rattle.packing.proofs.packed.PackedLayout.owner.Goals as goal
