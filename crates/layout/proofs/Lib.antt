@@ -5,3 +5,5 @@ pub mod Following
 pub mod Testing
 pub mod Holding
 pub mod Filling
+pub mod Parts
+pub mod Reading

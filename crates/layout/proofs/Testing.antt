@@ -1,10 +1,13 @@
 -- Tests that are passed.
-use Rattle.std.proofs.Common.{◌≡◌, ℕ, ◌<◌, eqb, ltb, List, length, ◌∙◌}
-use Rattle.std.proofs.lemmas.Bool.{eq-eqb, lt-ltb, cond-true}
+use Rattle.std.proofs.Common.{◌≡◌, ℕ, ◌<◌, Bool, true, false, cond, eqb, ltb, List, length, Ok, Err, Result, sym, refl, ap, ◌∙◌, arith}
+use Rattle.std.proofs.lemmas.Bool.{eq-eqb, lt-ltb, eqb-true, ltb-true, cond-true}
 use Rattle.samples.specs.declared.fault.Fault.{Fault}
+use Rattle.samples.specs.declared.fault.Rule.TheVariants.{ImageLength, NoSite, CodeCount}
+use Rattle.samples.specs.declared.shape.Shape.{Shape}
+use Rattle.samples.specs.Faults.{refusal}
 use Rattle.samples.specs.Lines.{line_count}
 use Rattle.layout.specs.Meaning.{Meaning}
-use Rattle.layout.specs.Tests.{sized, line_tests}
+use Rattle.layout.specs.Tests.{sized, judged, line_tests}
 
 module _ {X : Type 0} (m : Meaning) (image : List ℕ) (refused : Fault → X) (x : X) where
   pub sized_passed : length image ≡ m.size → sized m image refused x ≡ x
@@ -15,3 +18,40 @@ module _ {X : Type 0} (m : Meaning) (image : List ℕ) (refused : Fault → X) (
       cond-true (eqb (length image) m.size) _ _ (eq-eqb (length image) m.size e)
       ∙ cond-true (ltb l m.shape.size.height) _ _ (lt-ltb l m.shape.size.height h)
       ∙ cond-true (eqb n (line_count m.shape)) x _ (eq-eqb n (line_count m.shape) c)
+
+-- the tests by what they come to
+abbrev tests : {X : Type 0} → Bool → Bool → Bool → (Fault → X) → X → X
+tests a b c refused x =
+    cond a (cond b (cond c x (refused (refusal CodeCount 0))) (refused (refusal NoSite 0))) (refused (refusal ImageLength 0))
+
+ok_not_err : (f : Fault) → ◌≡◌ {A = Result (Unit {0}) Fault} (Err f) (Ok tt) → ⊥
+ok_not_err f e = let z : ◌≡◌ {A = ℕ} 0 1 = cc in omega arith
+
+tests_passed : (a b c : Bool) → tests a b c Err (Ok (tt {0})) ≡ Ok (tt {0}) → (a ≡ true) × (b ≡ true) × (c ≡ true)
+tests_passed true true true e = (refl, refl, refl)
+tests_passed true true false e = absurd (ok_not_err _ e)
+tests_passed true false c e = absurd (ok_not_err _ e)
+tests_passed false b c e = absurd (ok_not_err _ e)
+
+-- what holds where the tests are passed
+pub record Passed (have size : ℕ) (t : Shape) (l n : ℕ) : Type 0 where
+  pub long : have ≡ size
+  pub low : l < t.size.height
+  pub count : n ≡ line_count t
+
+pub judged_passed : (have size : ℕ) (t : Shape) (l n : ℕ) → judged have size t l n Err (Ok (tt {0})) ≡ Ok (tt {0}) → Passed have size t l n
+judged_passed have size t l n e =
+    let p = tests_passed (eqb have size) (ltb l t.size.height) (eqb n (line_count t)) e in
+    record {
+      long = eqb-true have size p.0;
+      low = ltb-true l t.size.height p.1;
+      count = eqb-true n (line_count t) p.2;
+    }
+
+-- the same of a layout that told its length and its shape
+pub told_passed : (m : Meaning) (have l n size : ℕ) (t : Shape) → size ≡ m.size → t ≡ m.shape → judged have size t l n Err (Ok (tt {0})) ≡ Ok (tt {0}) → Passed have m.size m.shape l n
+told_passed m have l n size t a b e =
+    judged_passed have m.size m.shape l n (ap (λ s. judged have s m.shape l n Err (Ok tt)) (sym a) ∙ ap (λ y. judged have size y l n Err (Ok tt)) (sym b) ∙ e)
+
+pub passed_line : {X : Type 0} (m : Meaning) (image : List ℕ) (l n : ℕ) (refused : Fault → X) (x : X) → Passed (length image) m.size m.shape l n → line_tests m image l n refused x ≡ x
+passed_line m image l n refused x p = line_passed m image refused x l n p.long p.low p.count

@@ -7,8 +7,8 @@ use Rattle.samples.specs.declared.shape.Shape.{Shape}
 use Rattle.samples.specs.declared.site.Site.{Site}
 use Rattle.samples.specs.Codes.{rest_of}
 use Rattle.samples.specs.Components.{component_number}
-use Rattle.samples.specs.Shapes.{has}
-use Rattle.samples.specs.Lines.{line_count, index_of, component_at, site_at}
+use Rattle.samples.specs.Shapes.{has, columns}
+use Rattle.samples.specs.Lines.{line_count, index_of, component_at, site_of, site_at}
 use Rattle.layout.specs.Meaning.{Meaning, width}
 
 -- the code of a site in an image
@@ -22,6 +22,10 @@ held m image s = cond (has m.shape s) (code_of m image s) 0
 -- the codes of a picture line that an image holds, in the order of a line
 abbrev pub line_held : Meaning → List ℕ → ℕ → List ℕ
 line_held m image l = map (λ i. held m image (site_at m.shape l i)) (range_with_len 0 (line_count m.shape))
+
+-- those of one component, by column
+abbrev pub part_held : Meaning → List ℕ → ℕ → Component → List ℕ
+part_held m image l c = map (λ x. held m image (site_of c x l)) (range_with_len 0 (columns m.shape c))
 
 -- the image that holds given codes: a bit of a site's run is that of its code, any other has its fixed value
 abbrev pub bit_held : Meaning → (Site → ℕ) → ℕ → Option Site → Bool
@@ -87,3 +91,7 @@ laid t l codes s = cond (s.line.0 == l) (Some (slice_index codes (index_of t s))
 abbrev pub laid_below : Shape → ℕ → List ℕ → ℕ → Site → Option ℕ
 laid_below t l codes n s =
     cond (s.line.0 == l && nat_lt (index_of t s) n) (Some (slice_index codes (index_of t s))) None
+
+-- those of one component alone
+abbrev pub part_laid : Shape → ℕ → Component → List ℕ → Site → Option ℕ
+part_laid t l c codes s = cond (same_component c s.component) (laid t l codes s) None

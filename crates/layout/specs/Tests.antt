@@ -1,11 +1,15 @@
 -- What is answered and left where an image is wiped, or a line of it read or written: the tests in rising order of their refusals.
 use Rattle.std.specs.Prelude.{ℕ, cond, List, length, Ok, Err, Result, ◌==◌, nat_lt}
+use Rattle.std.proofs.Math.Seq.{paste}
 use Rattle.samples.specs.declared.fault.Fault.{Fault}
 use Rattle.samples.specs.declared.fault.Rule.TheVariants.{ImageLength, NoSite, CodeCount}
 use Rattle.samples.specs.Faults.{refusal}
-use Rattle.samples.specs.Lines.{line_count}
+use Rattle.samples.specs.declared.component.Component.{Component}
+use Rattle.samples.specs.declared.shape.Shape.{Shape}
+use Rattle.samples.specs.Lines.{first_of, line_count}
+use Rattle.samples.specs.Shapes.{columns}
 use Rattle.layout.specs.Meaning.{Meaning}
-use Rattle.layout.specs.Images.{line_held, wiped, rewritten, laid}
+use Rattle.layout.specs.Images.{line_held, part_held, wiped, rewritten, laid, part_laid}
 
 -- x where the image has the layout's length, else refused by 11
 abbrev pub sized : {X : Type 0} → Meaning → List ℕ → (Fault → X) → X → X
@@ -18,6 +22,15 @@ line_tests m image l n refused x =
     (cond (nat_lt l m.shape.size.height)
     (cond (n == line_count m.shape) x (refused (refusal CodeCount 0)))
     (refused (refusal NoSite 0)))
+
+-- the same by plain numbers: an image has `have` bytes, the layout's have `size`, and its shape is t
+abbrev pub judged : {X : Type 0} → ℕ → ℕ → Shape → ℕ → ℕ → (Fault → X) → X → X
+judged have size t l n refused x =
+    cond (have == size)
+    (cond (nat_lt l t.size.height)
+    (cond (n == line_count t) x (refused (refusal CodeCount 0)))
+    (refused (refusal NoSite 0)))
+    (refused (refusal ImageLength 0))
 
 abbrev pub wipe_answer : Meaning → List ℕ → Result (Unit {0}) Fault
 wipe_answer m image = sized m image Err (Ok tt)
@@ -36,3 +49,13 @@ line_read m image l codes = line_tests m image l (length codes) (λ _. codes) (l
 -- the image after a line is written
 abbrev pub line_written : Meaning → List ℕ → ℕ → List ℕ → List ℕ
 line_written m image l codes = line_tests m image l (length codes) (λ _. image) (rewritten m (laid m.shape l codes) image)
+
+-- the codes after those of one component are read: they stand from the component's first index on
+abbrev pub part_read : Meaning → List ℕ → ℕ → Component → List ℕ → List ℕ
+part_read m image l c codes =
+    line_tests m image l (length codes) (λ _. codes) (paste codes (first_of m.shape c) (part_held m image l c) (columns m.shape c))
+
+-- the image after those of one component are written
+abbrev pub part_written : Meaning → List ℕ → ℕ → Component → List ℕ → List ℕ
+part_written m image l c codes =
+    line_tests m image l (length codes) (λ _. image) (rewritten m (part_laid m.shape l c codes) image)

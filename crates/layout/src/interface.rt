@@ -3,8 +3,10 @@ ghost use Rattle.std.specs.Prelude.{◌≡◌, ◌+◌, ◌*◌};
 ghost use Rattle.samples.specs.declared.shape.Shape.{Shape as TheShape};
 ghost use Rattle.image.specs.Bits.{number};
 ghost use Rattle.layout.specs.Meaning.{Meaning, Lawful, located};
-ghost use Rattle.layout.specs.Tests.{wipe_answer, wipe_image, line_answer, line_read, line_written};
+ghost use Rattle.layout.specs.Tests.{wipe_answer, wipe_image, line_answer, line_read, line_written, part_read, part_written};
 
+use crate::judge::judge_line;
+use crate::part::{AlphaPart, CbPart, CrPart, LumaPart, Part};
 use crate::reach::{read_at, write_at};
 use samples::fault::{Fault, Rule};
 use samples::lines::PictureLine;
@@ -73,26 +75,67 @@ pub trait Layout: Shaped {
         Ok(())
     }
 
+    // Reads the codes of one component of a picture line into their places among the line's codes. The part is a type, so that the component is a constant in the loop.
+    fn read_part<P: Part>(
+        &self,
+        image: &[u8],
+        line: PictureLine,
+        part: &P,
+        codes: &mut [u16],
+    ) -> Result<(), Fault>
+        ensures answer { result ≡ line_answer (meaning self.now) image.now line.0 codes.old }
+        ensures codes { codes.new ≡ part_read (meaning self.now) image.now line.0 (P.Part.which part.now) codes.old }
+    {
+        let component = part.component();
+        let shape = self.shape();
+        judge_line(image.len(), self.length(), shape, line, codes.len())?;
+        let first = shape.first_of(component);
+        for column in 0..shape.columns(component) {
+            let start = self.locate(Site {
+                component,
+                column,
+                line,
+            });
+            codes[(first + column) as usize] = read_at(image, start, shape.bits);
+        }
+        Ok(())
+    }
+
+    // Writes the codes of one component of a picture line, taken from their places among the line's codes.
+    fn write_part<P: Part>(
+        &self,
+        image: &mut [u8],
+        line: PictureLine,
+        part: &P,
+        codes: &[u16],
+    ) -> Result<(), Fault>
+        ensures answer { result ≡ line_answer (meaning self.now) image.old line.0 codes.now }
+        ensures image { image.new ≡ part_written (meaning self.now) image.old line.0 (P.Part.which part.now) codes.now }
+    {
+        let component = part.component();
+        let shape = self.shape();
+        judge_line(image.len(), self.length(), shape, line, codes.len())?;
+        let first = shape.first_of(component);
+        for column in 0..shape.columns(component) {
+            let start = self.locate(Site {
+                component,
+                column,
+                line,
+            });
+            write_at(image, start, shape.bits, codes[(first + column) as usize]);
+        }
+        Ok(())
+    }
+
     // Reads the codes of a picture line, all of Y', then Cb, Cr, A.
     fn read_line(&self, image: &[u8], line: PictureLine, codes: &mut [u16]) -> Result<(), Fault>
         ensures answer { result ≡ line_answer (meaning self.now) image.now line.0 codes.old }
         ensures codes { codes.new ≡ line_read (meaning self.now) image.now line.0 codes.old }
     {
-        if image.len() != self.length() as usize {
-            return Err(Fault::of(Rule::ImageLength, 0));
-        }
-        let shape = self.shape();
-        if line.0 >= shape.size.height {
-            return Err(Fault::of(Rule::NoSite, 0));
-        }
-        if codes.len() != shape.line_count() as usize {
-            return Err(Fault::of(Rule::CodeCount, 0));
-        }
-        for i in 0..codes.len() {
-            let start = self.locate(shape.site_at(line, i as u32));
-            codes[i] = read_at(image, start, shape.bits);
-        }
-        Ok(())
+        self.read_part(image, line, &LumaPart, codes)?;
+        self.read_part(image, line, &CbPart, codes)?;
+        self.read_part(image, line, &CrPart, codes)?;
+        self.read_part(image, line, &AlphaPart, codes)
     }
 
     // Writes the codes of a picture line: of each code the low n bits, and no bit beside their runs.
@@ -100,21 +143,10 @@ pub trait Layout: Shaped {
         ensures answer { result ≡ line_answer (meaning self.now) image.old line.0 codes.now }
         ensures image { image.new ≡ line_written (meaning self.now) image.old line.0 codes.now }
     {
-        if image.len() != self.length() as usize {
-            return Err(Fault::of(Rule::ImageLength, 0));
-        }
-        let shape = self.shape();
-        if line.0 >= shape.size.height {
-            return Err(Fault::of(Rule::NoSite, 0));
-        }
-        if codes.len() != shape.line_count() as usize {
-            return Err(Fault::of(Rule::CodeCount, 0));
-        }
-        for i in 0..codes.len() {
-            let start = self.locate(shape.site_at(line, i as u32));
-            write_at(image, start, shape.bits, codes[i]);
-        }
-        Ok(())
+        self.write_part(image, line, &LumaPart, codes)?;
+        self.write_part(image, line, &CbPart, codes)?;
+        self.write_part(image, line, &CrPart, codes)?;
+        self.write_part(image, line, &AlphaPart, codes)
     }
 
     ghost lawful: { (x : Self) → Lawful (meaning x) };

@@ -2,5 +2,7 @@
 #![tactic(auto)]
 
 pub mod interface;
+pub mod judge;
 pub mod laws;
+pub mod part;
 mod reach;
