@@ -1,4 +1,3 @@
 pub mod Timing
 pub mod Dividing
 pub mod Bounded
-pub mod Columns

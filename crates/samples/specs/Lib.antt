@@ -5,4 +5,5 @@ pub mod Parts
 pub mod Codes
 pub mod Shapes
 pub mod Lines
+pub mod Fitting
 pub mod Times

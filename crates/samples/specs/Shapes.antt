@@ -15,12 +15,16 @@ abbrev pub chroma_columns : Chroma → ℕ → ℕ
 chroma_columns Half w = w / 2
 chroma_columns Full w = w
 
+-- how many of w columns a component has
+abbrev pub share : ℕ → Chroma → Bool → Component → ℕ
+share w c a Luma = w
+share w c a Cb = chroma_columns c w
+share w c a Cr = chroma_columns c w
+share w c a Alpha = cond a w 0
+
 -- how many columns of a component a line has
 abbrev pub columns : Shape → Component → ℕ
-columns t Luma = t.size.width
-columns t Cb = chroma_columns t.chroma t.size.width
-columns t Cr = chroma_columns t.chroma t.size.width
-columns t Alpha = cond t.alpha t.size.width 0
+columns t = share t.size.width t.chroma t.alpha
 
 -- whether a shape has a site
 abbrev pub has : Shape → Site → Bool

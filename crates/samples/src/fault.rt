@@ -25,7 +25,7 @@ pub enum Rule {
     LineNotCome,
 }
 
-// A refusal in plain numbers. Only `Fault::of` builds one, so that a new field touches one place.
+// A refusal in plain numbers, so that it goes up through every layer whole. Only `Fault::of` builds one, so that a new field touches one place.
 #[derive(Clone, Copy, PartialEq, Eq, Debug)]
 pub struct Fault {
     number: u8,
@@ -87,9 +87,27 @@ impl Fault {
     }
 }
 
+// The place is 0 unless a rule tells another.
+impl From<Rule> for Fault {
+    ghost from_gives = { λ rule fault. fault ≡ refusal rule 0 };
+
+    fn from(rule: Rule) -> Fault {
+        Fault::of(rule, 0)
+    }
+}
+
 // A refused call that was given a value to use up: the fault, and the value as it was.
 #[derive(Drop)]
 pub struct Declined<T> {
     pub fault: Fault,
     pub back: T,
+}
+
+// So that a call can be refused by `?`, with what it was given let go.
+impl<T: Drop> From<Declined<T>> for Fault {
+    ghost from_gives = { λ declined fault. fault ≡ declined.fault };
+
+    fn from(declined: Declined<T>) -> Fault {
+        declined.fault
+    }
 }

@@ -7,6 +7,7 @@ pub mod fault;
 pub mod line;
 pub mod lines;
 pub mod make;
+pub mod parts;
 pub mod shape;
 pub mod site;
 pub mod text;

@@ -13,29 +13,31 @@ impl Size {
         ensures { plain_size result ≡ size_made width height }
     {
         if width % 2 != 0 || width < 2 || width > 4096 {
-            return Err(Fault::of(Rule::Size, 0));
+            return Err(Rule::Size.into());
         }
         if height < 1 || height > 2304 {
-            return Err(Fault::of(Rule::Size, 0));
+            return Err(Rule::Size.into());
         }
         Ok(Size { width, height })
     }
 }
 
-impl Bits {
+impl TryFrom<u32> for Bits {
+    type Error = Fault;
+
+    ghost try_from_gives = { λ count made. plain_bits made ≡ bits_made count };
+
     // 8 to 16 bits; else refused by 9.
-    pub fn new(count: u32) -> Result<Bits, Fault>
-        ensures { plain_bits result ≡ bits_made count }
-    {
+    fn try_from(count: u32) -> Result<Bits, Fault> {
         if count < 8 || count > 16 {
-            return Err(Fault::of(Rule::Content, 0));
+            return Err(Rule::Content.into());
         }
         Ok(Bits { count })
     }
 }
 
 impl Shape {
-    // A shape of plain numbers: the size is judged before the code width.
+    // A shape of plain numbers, which are judged here, the size before the code width.
     pub fn new(
         width: u32,
         height: u32,
@@ -47,7 +49,7 @@ impl Shape {
         ensures { plain_shape result ≡ shape_made width height chroma alpha bits time }
     {
         let size = Size::new(width, height)?;
-        let bits = Bits::new(bits)?;
+        let bits = Bits::try_from(bits)?;
         Ok(Shape {
             size,
             chroma,

@@ -1,6 +1,6 @@
 // Shapes: which sites a picture has, how wide its codes are, and in which order its lines come.
 ghost use Rattle.std.specs.Prelude.{◌≡◌};
-ghost use Rattle.samples.specs.Shapes.{columns, has, retimed};
+ghost use Rattle.samples.specs.Shapes.{share, columns, has, retimed};
 ghost use Rattle.samples.specs.Times.{time_line_of, picture_line_of, TimesAreLines};
 
 use crate::bounds::{Bits, Size};
@@ -33,19 +33,28 @@ pub struct Shape {
     pub time: TimeKind,
 }
 
+impl Component {
+    // How many of `wide` columns a component has: Cb and Cr by the chroma, A all or none.
+    pub fn share(self, wide: u32, chroma: Chroma, alpha: bool) -> u32
+        ensures { result ≡ share wide chroma alpha self }
+    {
+        match self {
+            Component::Luma => wide,
+            Component::Cb | Component::Cr => match chroma {
+                Chroma::Half => wide / 2,
+                Chroma::Full => wide,
+            },
+            Component::Alpha => if alpha { wide } else { 0 },
+        }
+    }
+}
+
 impl Shape {
     // How many columns of a component a line has.
     pub fn columns(self, component: Component) -> u32
         ensures { result ≡ columns self component }
     {
-        match component {
-            Component::Luma => self.size.width,
-            Component::Cb | Component::Cr => match self.chroma {
-                Chroma::Half => self.size.width / 2,
-                Chroma::Full => self.size.width,
-            },
-            Component::Alpha => if self.alpha { self.size.width } else { 0 },
-        }
+        component.share(self.size.width, self.chroma, self.alpha)
     }
 
     // Whether the shape has a site.
@@ -59,13 +68,7 @@ impl Shape {
     pub fn retimed(self, time: TimeKind) -> Shape
         ensures { result ≡ retimed time self }
     {
-        Shape {
-            size: self.size,
-            chroma: self.chroma,
-            alpha: self.alpha,
-            bits: self.bits,
-            time,
-        }
+        Shape { time, ..self }
     }
 }
 

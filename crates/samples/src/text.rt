@@ -1,7 +1,65 @@
-// How a fault is written, so that programs can hand it on as any error.
+// How sizes, code widths, components, chroma, times, sites and faults are written; a fault so that programs can hand it on as any error.
+use crate::bounds::{Bits, Size};
+use crate::component::Component;
 use crate::fault::Fault;
+use crate::shape::{Chroma, TimeKind};
+use crate::site::Site;
 use std::error::Error;
 use std::fmt;
+
+impl fmt::Display for Size {
+    fn fmt<W: fmt::Write>(&self, f: &mut fmt::Formatter<W>) -> fmt::Result {
+        let width = self.width;
+        let height = self.height;
+        write!(f, "{width} by {height}")
+    }
+}
+
+impl fmt::Display for Bits {
+    fn fmt<W: fmt::Write>(&self, f: &mut fmt::Formatter<W>) -> fmt::Result {
+        let count = self.count;
+        write!(f, "{count} bits")
+    }
+}
+
+impl fmt::Display for Component {
+    fn fmt<W: fmt::Write>(&self, f: &mut fmt::Formatter<W>) -> fmt::Result {
+        f.write_str(match self {
+            Component::Luma => "Y'",
+            Component::Cb => "Cb",
+            Component::Cr => "Cr",
+            Component::Alpha => "A",
+        })
+    }
+}
+
+impl fmt::Display for Chroma {
+    fn fmt<W: fmt::Write>(&self, f: &mut fmt::Formatter<W>) -> fmt::Result {
+        f.write_str(match self {
+            Chroma::Half => "half chroma",
+            Chroma::Full => "full chroma",
+        })
+    }
+}
+
+impl fmt::Display for TimeKind {
+    fn fmt<W: fmt::Write>(&self, f: &mut fmt::Formatter<W>) -> fmt::Result {
+        f.write_str(match self {
+            TimeKind::Progressive => "progressive",
+            TimeKind::TopFirst => "top field first",
+            TimeKind::BottomFirst => "bottom field first",
+        })
+    }
+}
+
+impl fmt::Display for Site {
+    fn fmt<W: fmt::Write>(&self, f: &mut fmt::Formatter<W>) -> fmt::Result {
+        let component = self.component;
+        let column = self.column;
+        let line = self.line.0;
+        write!(f, "{component} column {column} line {line}")
+    }
+}
 
 impl fmt::Display for Fault {
     fn fmt<W: fmt::Write>(&self, f: &mut fmt::Formatter<W>) -> fmt::Result {
