@@ -1,28 +1,15 @@
-use Rattle.std.proofs.Common.{ℕ, ◌+◌, List, get_or, set, ap, ◌∙◌, rules}
+use Rattle.std.proofs.Common.{◌≡◌, ◌+◌, ◌-◌, ap, ◌∙◌, arith, rules}
+use borrow.Rule.Slice.PartMut.{put_mid}
 use Rattle.image.proofs.Images.{Bytes}
-use Rattle.image.proofs.Windows.{written_four}
+use Rattle.image.proofs.Windows.{written_bytes}
 use Rattle.image.proofs.put_window.Goals as goal
-
--- the first four of a list of bytes, from the byte `at` on
-abbrev put : List ℕ → ℕ → List ℕ → List ℕ
-put image at bytes =
-    set (set (set (set image at (get_or bytes 0 0)) (at + 1) (get_or bytes 1 0)) (at + 2) (get_or bytes 2 0)) (at + 3) (get_or bytes 3 0)
 
 pub returns-then-at-image : goal.returns-then-at-image
 returns-then-at-image c =
     -- the slice was lent, so each of its elements is known to be a byte
     let small : Bytes c.args.image.now = search rules in
-    ap (put c.args.image.now c.args.at) c.to_le_bytes-bytes.ensures
-    ∙ written_four c.args.image.now small c.args.at c.args.x
-
-pub returns-else-at-image : goal.returns-else-at-image
-returns-else-at-image c =
+    let image = c.args.image.now in
     let at = c.args.at in
-    let bytes = c.to_le_bytes-bytes.result in
-    let small : Bytes c.args.image.now = search rules in
-    c.put_byte-else-at-image-3.ensures
-    ∙ ap (λ l. set l (at + 3) (get_or bytes 3 0)) c.put_byte-else-at-image-2.ensures
-    ∙ ap (λ l. set (set l (at + 2) (get_or bytes 2 0)) (at + 3) (get_or bytes 3 0)) c.put_byte-else-at-image.ensures
-    ∙ ap (λ l. set (set (set l (at + 1) (get_or bytes 1 0)) (at + 2) (get_or bytes 2 0)) (at + 3) (get_or bytes 3 0)) c.put_byte.ensures
-    ∙ ap (put c.args.image.now at) c.to_le_bytes-bytes.ensures
-    ∙ written_four c.args.image.now small at c.args.x
+    let four : at + 4 - at ≡ 4 = omega arith in
+    ap (λ k. put_mid at k image c.copy_from_slice.new.self) four
+    ∙ written_bytes image small at c.args.x at 4 _ _ (omega arith) (omega arith) c.copy_from_slice.ensures.after c.to_le_bytes.ensures

@@ -1,20 +1,17 @@
-use Rattle.std.proofs.Common.{arith, rules}
+use Rattle.std.proofs.Common.{◌≡◌, ℕ, ◌+◌, ◌<◌, List, get_or, take, drop, ap, ◌∙◌, arith, rules}
+use Rattle.std.proofs.lemmas.List.{get_or-take, get_or-drop}
 use Rattle.image.proofs.Images.{Bytes}
 use Rattle.image.proofs.Windows.{code_window}
 use Rattle.image.proofs.window.Goals as goal
 
-pub returns-then-at-image : goal.returns-then-at-image
-returns-then-at-image c =
+pub returns-in-Some : goal.returns-in-Some
+returns-in-Some c =
     -- the slice was lent, so each of its elements is known to be a byte
     let small : Bytes c.args.image.now = search rules in
-    omega (arith, code_window c.args.image.now small c.args.at, c.from.ensures, c.from_le_bytes.ensures)
-
-pub returns-else-at-image : goal.returns-else-at-image
-returns-else-at-image c =
-    let small : Bytes c.args.image.now = search rules in
-    let b0 = c.byte_at.ensures in
-    let b1 = c.byte_at-else-at-image.ensures in
-    let b2 = c.byte_at-else-at-image-2.ensures in
-    let b3 = c.byte_at-else-at-image-3.ensures in
-    let is = c.from_le_bytes-else-at-image.ensures in
-    omega (arith, code_window c.args.image.now small c.args.at, c.from-else-at-image.ensures, is, b0, b1, b2, b3)
+    let image = c.args.image.now in
+    let at = c.args.at in
+    let bytes : List ℕ = c.in-Some.bytes.now in
+    let first : bytes ≡ take 4 (drop at image) = search rules in
+    let each : (i : ℕ) → i < 4 → get_or bytes i 0 ≡ get_or image (at + i) 0 =
+    λ i h. ap (λ l. get_or l i 0) first ∙ get_or-take 4 (drop at image) i 0 h ∙ get_or-drop at image i 0 in
+    omega (arith, code_window image small at bytes each, c.from.ensures, c.from_le_bytes.ensures)
