@@ -25,6 +25,7 @@ pub enum AnyPacking {
     V210(Packed<V210>),
 }
 
+// The match of every method: a call chooses once, and all is constant inside the arm.
 macro_rules! each {
     ($any:expr, $p:ident => $said:expr) => {
         match $any {
@@ -39,7 +40,7 @@ macro_rules! each {
 }
 
 impl AnyPacking {
-    // Its type.
+    // Its type. Arms and no constant of the formats: that would be two lines for each type in place of one.
     pub fn kind(&self) -> Kind
         ensures { result ≡ kind_of self.now }
     {

@@ -1,3 +1,3 @@
-pub mod Naming
+pub mod Rows
 pub mod Table
 pub mod Six

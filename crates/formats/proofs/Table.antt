@@ -1,11 +1,12 @@
 -- The test of a table turned into the fact at each run and bit: the one proof that runs are disjoint.
-use Rattle.std.specs.Prelude.{◌≡◌, ℕ, zero, suc, ◌+◌, ◌-◌, ◌*◌, ◌<◌, ◌≤◌, Bool, true, false, List, [], ◌∷◌, length, Some, None, Option, nat_le, nat_lt, slice_index, slice_index_or}
+use Rattle.std.specs.Prelude.{◌≡◌, ℕ, zero, suc, ◌+◌, ◌*◌, ◌<◌, ◌≤◌, Bool, true, length, Some, None, Option, nat_le, nat_lt, slice_index}
 use Rattle.std.proofs.Common.{sym, ap, ◌∙◌, ⊎_elim, arith}
-use Rattle.std.proofs.lemmas.Bool.{cases_lt, cases_Bool, and_parts, eqb-true, ltb-true, leb-true, cond-true, cond-false}
+use Rattle.std.proofs.lemmas.List.Quantifiers.{position-Some}
+use Rattle.std.proofs.lemmas.Bool.{cases_lt, and_parts, eqb-true, ltb-true, leb-true}
 use Rattle.samples.specs.declared.component.Component.{Component}
 use Rattle.samples.specs.Parts.{before, whole, part_at}
 use Rattle.samples.proofs.Dividing.{part_here, part_small}
-use Rattle.formats.specs.Packing.{Packing, Proper, runs, start_in, covers, holder_from, holder, all_below, is_run, run_apart}
+use Rattle.formats.specs.Packing.{Packing, Proper, runs, start_in, covers, holder, all_below, is_run, run_apart}
 use Rattle.formats.specs.Formats.{RunsApart}
 
 none_below : (k : ℕ) → k < 0 → ⊥
@@ -24,26 +25,6 @@ at_below (suc m) f t k h =
 is_that : (q : ℕ) (o : Option ℕ) → is_run q o ≡ true → o ≡ Some q
 is_that q None t = let z : ◌≡◌ {A = ℕ} 0 1 = cc in absurd (omega arith)
 is_that q (Some r) t = ap Some (sym (eqb-true q r t))
-
--- a holder is a number of the table, and its run holds the bit
-pub held_from : (n : ℕ) (ss : List ℕ) (w i q : ℕ) → holder_from n ss w i ≡ Some q → (i ≤ q) × (q < i + length ss) × (covers n w (slice_index ss (q - i)) ≡ true)
-held_from n [] w i q e = let z : ◌≡◌ {A = ℕ} 0 1 = cc in absurd (omega arith)
-held_from n (s ∷ ss) w i q e =
-    ⊎_elim
-    (λ (t : covers n w s ≡ true).
-    let at : Some i ≡ Some q = sym (cond-true (covers n w s) (Some i) (holder_from n ss w (i + 1)) t) ∙ e in
-    let same : i ≡ q = cc in
-    here same t)
-    (λ (t : covers n w s ≡ false).
-    let r = held_from n ss w (i + 1) q (sym (cond-false (covers n w s) (Some i) (holder_from n ss w (i + 1)) t) ∙ e) in
-    there r.0 r.1 r.2)
-    (cases_Bool (covers n w s))
-  where
-    here : i ≡ q → covers n w s ≡ true → (i ≤ q) × (q < i + length (s ∷ ss)) × (covers n w (slice_index (s ∷ ss) (q - i)) ≡ true)
-    here same t = let e : q - i ≡ 0 = omega arith in (omega arith, omega arith, ap (λ k. covers n w (slice_index (s ∷ ss) k)) e ∙ t)
-
-    there : i + 1 ≤ q → q < i + 1 + length ss → covers n w (slice_index ss (q - (i + 1))) ≡ true → (i ≤ q) × (q < i + length (s ∷ ss)) × (covers n w (slice_index (s ∷ ss) (q - i)) ≡ true)
-    there a b t = let e : q - i ≡ suc (q - (i + 1)) = omega arith in (omega arith, omega arith, ap (λ k. covers n w (slice_index (s ∷ ss) k)) e ∙ t)
 
 module _ (p : Packing) (ok : Proper p) where
   run : (q : ℕ) → q < length p.starts → run_apart p q ≡ true
@@ -69,12 +50,10 @@ module _ (p : Packing) (ok : Proper p) where
   -- a holder is a run of the group, and holds the bit
   pub held_run : (w q : ℕ) → holder p w ≡ Some q → (q < whole (runs p)) × (slice_index p.starts q ≤ w) × (w < slice_index p.starts q + p.bits.count)
   held_run w q e =
-      let r = held_from p.bits.count p.starts w 0 q e in
-      let s : ℕ = slice_index_or p.starts (q - 0) 0 in
-      let t : ℕ = slice_index_or p.starts q 0 in
-      let same : s ≡ t = ap (λ k. slice_index p.starts k) (omega arith) in
-      let c = and_parts (nat_le s w) (nat_lt w (s + p.bits.count)) r.2 in
-      (omega (arith, r.1, ok.every), omega (arith, same, leb-true s w c.0), omega (arith, same, ltb-true w (s + p.bits.count) c.1))
+      let r = position-Some (covers p.bits.count w) p.starts q 0 e in
+      let s : ℕ = slice_index p.starts q in
+      let c = and_parts (nat_le s w) (nat_lt w (s + p.bits.count)) r.1 in
+      (omega (arith, r.0, ok.every), leb-true s w c.0, ltb-true w (s + p.bits.count) c.1)
 
   -- two runs that share a bit are one run
   pub runs_apart : RunsApart p

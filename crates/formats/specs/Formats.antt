@@ -1,5 +1,5 @@
 -- The six types of packing.
-use Rattle.std.specs.Prelude.{◌≡◌, ℕ, ◌+◌, ◌-◌, ◌*◌, ◌/◌, ◌<◌, Bool, true, false, [], ◌∷◌, ◌==◌}
+use Rattle.std.specs.Prelude.{◌≡◌, ℕ, ◌+◌, ◌*◌, ◌/◌, ◌<◌, Bool, true, false, [], ◌∷◌, ◌==◌}
 use Rattle.std.proofs.Common.{arith}
 use Rattle.samples.specs.declared.bounds.Bits.{Bits}
 use Rattle.samples.specs.declared.component.Component.{Component}
@@ -7,7 +7,7 @@ use Rattle.samples.specs.declared.shape.Chroma.TheVariants.{Half, Full}
 use Rattle.formats.specs.declared.kind.Kind.{Kind}
 use Rattle.formats.specs.declared.kind.Kind.TheVariants.{TwoVuy, V308, V408, V216, V410, V210}
 use Rattle.formats.specs.Packing.{Packing, runs, start_in}
-use Rattle.formats.specs.Wide.{v216_width}
+use Rattle.formats.specs.Wide.{v216_width, v216_starts}
 
 abbrev pub eight : Bits
 eight = record { count = 8; low = omega arith; high = omega arith }
@@ -30,9 +30,9 @@ p_v308 = record { pixels = 1; bytes = 3; depth = 24; chroma = Full; alpha = fals
 abbrev pub p_v408 : Packing
 p_v408 = record { pixels = 1; bytes = 4; depth = 32; chroma = Full; alpha = true; bits = eight; starts = 8 ∷ 0 ∷ 16 ∷ 24 ∷ []; row = plain_row 1 4 }
 
--- Y' 32 - n, 64 - n; Cb 16 - n; Cr 48 - n
+-- each code at the top of a word of 16 bits
 abbrev pub p_v216 : Bits → Packing
-p_v216 n = record { pixels = 2; bytes = 8; depth = 24; chroma = Half; alpha = false; bits = n; starts = (32 - n.count) ∷ (64 - n.count) ∷ (16 - n.count) ∷ (48 - n.count) ∷ []; row = plain_row 2 8 }
+p_v216 n = record { pixels = 2; bytes = 8; depth = 24; chroma = Half; alpha = false; bits = n; starts = v216_starts n.count; row = plain_row 2 8 }
 
 -- Y' 12; Cb 2; Cr 22
 abbrev pub p_v410 : Packing

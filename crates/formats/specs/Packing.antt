@@ -1,12 +1,12 @@
 -- A type of packing: its figures, and the table of runs within a group.
-use Rattle.std.specs.Prelude.{◌≡◌, ℕ, zero, suc, ◌+◌, ◌*◌, ◌/◌, ◌%◌, ◌<◌, ◌≤◌, Bool, true, false, cond, ◌&&◌, List, [], ◌∷◌, length, Some, None, Option, ◌==◌, nat_le, nat_lt, slice_index}
+use Rattle.std.specs.Prelude.{◌≡◌, ℕ, zero, suc, ◌+◌, ◌-◌, ◌*◌, ◌/◌, ◌%◌, ◌<◌, ◌≤◌, Bool, true, false, ◌&&◌, List, length, Some, None, Option, ◌==◌, nat_le, nat_lt, slice_index}
+use Rattle.std.specs.List.{position}
 use Rattle.samples.specs.declared.bounds.Bits.{Bits}
 use Rattle.samples.specs.declared.component.Component.{Component}
-use Rattle.samples.specs.declared.component.Component.TheVariants.{Luma, Cb, Cr, Alpha}
 use Rattle.samples.specs.declared.shape.Chroma.{Chroma}
 use Rattle.samples.specs.declared.shape.Chroma.TheVariants.{Half, Full}
 use Rattle.samples.specs.Parts.{before, whole}
-use Rattle.samples.specs.Shapes.{chroma_columns}
+use Rattle.samples.specs.Shapes.{share}
 use Rattle.formats.specs.declared.format.Figures.{Figures}
 
 -- what a type of packing fixes
@@ -29,10 +29,7 @@ figures_of p = record { pixels = p.pixels; bytes = p.bytes; depth = p.depth; chr
 -- ---- a group
 -- how many runs of a component a group has
 abbrev pub runs_of : Figures → Component → ℕ
-runs_of f Luma = f.pixels
-runs_of f Cb = chroma_columns f.chroma f.pixels
-runs_of f Cr = chroma_columns f.chroma f.pixels
-runs_of f Alpha = cond f.alpha f.pixels 0
+runs_of f = share f.pixels f.chroma f.alpha
 
 abbrev pub runs : Packing → Component → ℕ
 runs p = runs_of (figures_of p)
@@ -44,13 +41,9 @@ start_in p k i = slice_index p.starts (before (runs p) k + i)
 abbrev pub covers : ℕ → ℕ → ℕ → Bool
 covers n w s = nat_le s w && nat_lt w (s + n)
 
--- the number of the first run, counted from i, that holds bit w of the group
-abbrev pub holder_from : ℕ → List ℕ → ℕ → ℕ → Option ℕ
-holder_from n [] w i = None
-holder_from n (s ∷ ss) w i = cond (covers n w s) (Some i) (holder_from n ss w (i + 1))
-
+-- the number of the first run that holds bit w of the group
 abbrev pub holder : Packing → ℕ → Option ℕ
-holder p w = holder_from p.bits.count p.starts w 0
+holder p w = position (covers p.bits.count w) p.starts
 
 -- ---- the test of a table, which is computed
 abbrev pub all_below : ℕ → (ℕ → Bool) → Bool
@@ -87,3 +80,9 @@ pub record Proper (p : Packing) : Type 0 where
   -- the table has an entry for each run
   pub every : length p.starts ≡ whole (runs p)
   pub disjoint : all_apart p ≡ true
+
+-- a row is filled up to a multiple of so many groups
+pub record FillsRows (p : Packing) (groups : ℕ) : Type 0 where
+  pub some : 0 < groups
+  pub few : groups ≤ 16
+  pub row : (w : ℕ) → w % 2 ≡ 0 → p.row w ≡ (w + p.pixels * groups - 1) / (p.pixels * groups) * (p.bytes * groups)

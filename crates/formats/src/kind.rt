@@ -3,7 +3,9 @@ ghost use Rattle.std.specs.Prelude.{◌≡◌};
 ghost use Rattle.formats.specs.Names.{kind_named};
 ghost use Rattle.formats.specs.Formats.{takes};
 
+use crate::wide::V216;
 use samples::fault::{Fault, Rule};
+use std::str::FromStr;
 
 // The types of packing.
 #[derive(Clone, Copy, PartialEq, Eq, Debug)]
@@ -16,11 +18,13 @@ pub enum Kind {
     V210,
 }
 
-impl Kind {
-    // The type that four letters name; else refused by 2.
-    pub fn named(letters: &str) -> Result<Kind, Fault>
-        ensures { result ≡ kind_named letters.now }
-    {
+// The type that four letters name; else refused by 2.
+impl FromStr for Kind {
+    type Err = Fault;
+
+    ghost from_str_gives = { λ letters r. r ≡ kind_named letters };
+
+    fn from_str(letters: &str) -> Result<Kind, Fault> {
         match letters {
             "2vuy" => Ok(Kind::TwoVuy),
             "v308" => Ok(Kind::V308),
@@ -28,10 +32,12 @@ impl Kind {
             "v216" => Ok(Kind::V216),
             "v410" => Ok(Kind::V410),
             "v210" => Ok(Kind::V210),
-            _ => Err(Fault::of(Rule::UnknownType, 0)),
+            _ => Err(Rule::UnknownType.into()),
         }
     }
+}
 
+impl Kind {
     // Whether codes of n bits go into the type.
     pub fn takes(self, bits: u32) -> bool
         ensures { result ≡ takes self bits }
@@ -39,7 +45,7 @@ impl Kind {
         match self {
             Kind::TwoVuy | Kind::V308 | Kind::V408 => bits == 8,
             Kind::V410 | Kind::V210 => bits == 10,
-            Kind::V216 => bits == 10 || bits == 12 || bits == 14 || bits == 16,
+            Kind::V216 => V216::takes(bits),
         }
     }
 }

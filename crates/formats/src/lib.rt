@@ -7,4 +7,3 @@ pub mod laws;
 pub mod types;
 pub mod v216;
 pub mod wide;
-mod widths;

@@ -1,46 +1,59 @@
-// The five types with one width of codes. Their tables have all of Y', then Cb, Cr, A, each from left to right.
+// The five types with one width of codes.
+ghost use Rattle.std.specs.Prelude.{refl};
 ghost use Rattle.formats.specs.Formats.{p_2vuy, p_v308, p_v408, p_v410, p_v210};
-ghost use Rattle.formats.specs.Six.{proper_2vuy, proper_v308, proper_v408, proper_v410, proper_v210};
+ghost use Rattle.formats.specs.Six.{proper_2vuy, proper_v308, proper_v408, proper_v410, proper_v210, filled_2vuy, filled_v308, filled_v408, filled_v410, filled_v210};
 
-use crate::format::{Figures, Fixed, Format, entry};
-use crate::widths::{eight_bits, ten_bits};
-use samples::bounds::Size;
+use crate::format::Format;
+use samples::bounds::Bits;
 use samples::shape::Chroma;
+
+const EIGHT: Bits = Bits { count: 8 };
+
+const TEN: Bits = Bits { count: 10 };
 
 // 2vuy: 4:2:2 at 8 bits.
 #[derive(Clone, Copy)]
 pub struct TwoVuy;
 
-impl Fixed for TwoVuy {
+impl Format for TwoVuy {
     const GROUP_PIXELS: u32 = 2;
 
     const GROUP_BYTES: u32 = 4;
 
-    const DEPTH: u16 = 24;
-}
+    const ROW_GROUPS: u32 = 1;
 
-impl Format for TwoVuy {
+    const DEPTH: u16 = 24;
+
+    const CHROMA: Chroma = Chroma::Half;
+
+    const ALPHA: bool = false;
+
+    ghost GROUP_PIXELS = { p_2vuy.pixels };
+
+    ghost GROUP_BYTES = { p_2vuy.bytes };
+
+    ghost ROW_GROUPS = { 1 };
+
+    ghost DEPTH = { p_2vuy.depth };
+
+    ghost CHROMA = { p_2vuy.chroma };
+
+    ghost ALPHA = { p_2vuy.alpha };
+
     ghost packing = { λ _. p_2vuy };
 
     ghost proper = { λ _. proper_2vuy };
 
-    fn figures(&self) -> Figures {
-        Figures {
-            pixels: Self::GROUP_PIXELS,
-            bytes: Self::GROUP_BYTES,
-            depth: Self::DEPTH,
-            chroma: Chroma::Half,
-            alpha: false,
-            bits: eight_bits(),
-        }
+    ghost fixed = { λ _. refl };
+
+    ghost filled = { λ _. filled_2vuy };
+
+    fn bits(&self) -> Bits {
+        EIGHT
     }
 
-    fn row(&self, size: Size) -> u32 {
-        size.width * Self::GROUP_BYTES / Self::GROUP_PIXELS
-    }
-
-    fn start(&self, number: u32) -> u32 {
-        entry(&[8, 24, 0, 16], number)
+    fn starts(&self) -> &[u32] {
+        &[8, 24, 0, 16]
     }
 }
 
@@ -48,36 +61,45 @@ impl Format for TwoVuy {
 #[derive(Clone, Copy)]
 pub struct V308;
 
-impl Fixed for V308 {
+impl Format for V308 {
     const GROUP_PIXELS: u32 = 1;
 
     const GROUP_BYTES: u32 = 3;
 
-    const DEPTH: u16 = 24;
-}
+    const ROW_GROUPS: u32 = 1;
 
-impl Format for V308 {
+    const DEPTH: u16 = 24;
+
+    const CHROMA: Chroma = Chroma::Full;
+
+    const ALPHA: bool = false;
+
+    ghost GROUP_PIXELS = { p_v308.pixels };
+
+    ghost GROUP_BYTES = { p_v308.bytes };
+
+    ghost ROW_GROUPS = { 1 };
+
+    ghost DEPTH = { p_v308.depth };
+
+    ghost CHROMA = { p_v308.chroma };
+
+    ghost ALPHA = { p_v308.alpha };
+
     ghost packing = { λ _. p_v308 };
 
     ghost proper = { λ _. proper_v308 };
 
-    fn figures(&self) -> Figures {
-        Figures {
-            pixels: Self::GROUP_PIXELS,
-            bytes: Self::GROUP_BYTES,
-            depth: Self::DEPTH,
-            chroma: Chroma::Full,
-            alpha: false,
-            bits: eight_bits(),
-        }
+    ghost fixed = { λ _. refl };
+
+    ghost filled = { λ _. filled_v308 };
+
+    fn bits(&self) -> Bits {
+        EIGHT
     }
 
-    fn row(&self, size: Size) -> u32 {
-        size.width * Self::GROUP_BYTES / Self::GROUP_PIXELS
-    }
-
-    fn start(&self, number: u32) -> u32 {
-        entry(&[8, 16, 0], number)
+    fn starts(&self) -> &[u32] {
+        &[8, 16, 0]
     }
 }
 
@@ -85,36 +107,45 @@ impl Format for V308 {
 #[derive(Clone, Copy)]
 pub struct V408;
 
-impl Fixed for V408 {
+impl Format for V408 {
     const GROUP_PIXELS: u32 = 1;
 
     const GROUP_BYTES: u32 = 4;
 
-    const DEPTH: u16 = 32;
-}
+    const ROW_GROUPS: u32 = 1;
 
-impl Format for V408 {
+    const DEPTH: u16 = 32;
+
+    const CHROMA: Chroma = Chroma::Full;
+
+    const ALPHA: bool = true;
+
+    ghost GROUP_PIXELS = { p_v408.pixels };
+
+    ghost GROUP_BYTES = { p_v408.bytes };
+
+    ghost ROW_GROUPS = { 1 };
+
+    ghost DEPTH = { p_v408.depth };
+
+    ghost CHROMA = { p_v408.chroma };
+
+    ghost ALPHA = { p_v408.alpha };
+
     ghost packing = { λ _. p_v408 };
 
     ghost proper = { λ _. proper_v408 };
 
-    fn figures(&self) -> Figures {
-        Figures {
-            pixels: Self::GROUP_PIXELS,
-            bytes: Self::GROUP_BYTES,
-            depth: Self::DEPTH,
-            chroma: Chroma::Full,
-            alpha: true,
-            bits: eight_bits(),
-        }
+    ghost fixed = { λ _. refl };
+
+    ghost filled = { λ _. filled_v408 };
+
+    fn bits(&self) -> Bits {
+        EIGHT
     }
 
-    fn row(&self, size: Size) -> u32 {
-        size.width * Self::GROUP_BYTES / Self::GROUP_PIXELS
-    }
-
-    fn start(&self, number: u32) -> u32 {
-        entry(&[8, 0, 16, 24], number)
+    fn starts(&self) -> &[u32] {
+        &[8, 0, 16, 24]
     }
 }
 
@@ -122,36 +153,45 @@ impl Format for V408 {
 #[derive(Clone, Copy)]
 pub struct V410;
 
-impl Fixed for V410 {
+impl Format for V410 {
     const GROUP_PIXELS: u32 = 1;
 
     const GROUP_BYTES: u32 = 4;
 
-    const DEPTH: u16 = 24;
-}
+    const ROW_GROUPS: u32 = 1;
 
-impl Format for V410 {
+    const DEPTH: u16 = 24;
+
+    const CHROMA: Chroma = Chroma::Full;
+
+    const ALPHA: bool = false;
+
+    ghost GROUP_PIXELS = { p_v410.pixels };
+
+    ghost GROUP_BYTES = { p_v410.bytes };
+
+    ghost ROW_GROUPS = { 1 };
+
+    ghost DEPTH = { p_v410.depth };
+
+    ghost CHROMA = { p_v410.chroma };
+
+    ghost ALPHA = { p_v410.alpha };
+
     ghost packing = { λ _. p_v410 };
 
     ghost proper = { λ _. proper_v410 };
 
-    fn figures(&self) -> Figures {
-        Figures {
-            pixels: Self::GROUP_PIXELS,
-            bytes: Self::GROUP_BYTES,
-            depth: Self::DEPTH,
-            chroma: Chroma::Full,
-            alpha: false,
-            bits: ten_bits(),
-        }
+    ghost fixed = { λ _. refl };
+
+    ghost filled = { λ _. filled_v410 };
+
+    fn bits(&self) -> Bits {
+        TEN
     }
 
-    fn row(&self, size: Size) -> u32 {
-        size.width * Self::GROUP_BYTES / Self::GROUP_PIXELS
-    }
-
-    fn start(&self, number: u32) -> u32 {
-        entry(&[12, 2, 22], number)
+    fn starts(&self) -> &[u32] {
+        &[12, 2, 22]
     }
 }
 
@@ -159,35 +199,44 @@ impl Format for V410 {
 #[derive(Clone, Copy)]
 pub struct V210;
 
-impl Fixed for V210 {
+impl Format for V210 {
     const GROUP_PIXELS: u32 = 6;
 
     const GROUP_BYTES: u32 = 16;
 
-    const DEPTH: u16 = 24;
-}
+    const ROW_GROUPS: u32 = 8;
 
-impl Format for V210 {
+    const DEPTH: u16 = 24;
+
+    const CHROMA: Chroma = Chroma::Half;
+
+    const ALPHA: bool = false;
+
+    ghost GROUP_PIXELS = { p_v210.pixels };
+
+    ghost GROUP_BYTES = { p_v210.bytes };
+
+    ghost ROW_GROUPS = { 8 };
+
+    ghost DEPTH = { p_v210.depth };
+
+    ghost CHROMA = { p_v210.chroma };
+
+    ghost ALPHA = { p_v210.alpha };
+
     ghost packing = { λ _. p_v210 };
 
     ghost proper = { λ _. proper_v210 };
 
-    fn figures(&self) -> Figures {
-        Figures {
-            pixels: Self::GROUP_PIXELS,
-            bytes: Self::GROUP_BYTES,
-            depth: Self::DEPTH,
-            chroma: Chroma::Half,
-            alpha: false,
-            bits: ten_bits(),
-        }
+    ghost fixed = { λ _. refl };
+
+    ghost filled = { λ _. filled_v210 };
+
+    fn bits(&self) -> Bits {
+        TEN
     }
 
-    fn row(&self, size: Size) -> u32 {
-        128 * ((size.width + 47) / 48)
-    }
-
-    fn start(&self, number: u32) -> u32 {
-        entry(&[10, 32, 52, 74, 96, 116, 0, 42, 84, 20, 64, 106], number)
+    fn starts(&self) -> &[u32] {
+        &[10, 32, 52, 74, 96, 116, 0, 42, 84, 20, 64, 106]
     }
 }

@@ -1,58 +1,69 @@
 // Making v216, and v216 as a type of packing.
-ghost use Rattle.std.specs.Prelude.{◌≡◌};
+ghost use Rattle.std.specs.Prelude.{◌≡◌, false, refl};
+ghost use Rattle.samples.specs.declared.shape.Chroma.TheVariants.{Half};
 ghost use Rattle.formats.specs.Formats.{p_v216};
 ghost use Rattle.formats.specs.Made.{plain_v216, v216_made};
-ghost use Rattle.formats.specs.Six.{proper_v216};
+ghost use Rattle.formats.specs.Six.{proper_v216, filled_v216};
 
-use crate::format::{Figures, Fixed, Format, entry};
+use crate::format::Format;
 use crate::wide::V216;
-use samples::bounds::{Bits, Size};
+use samples::bounds::Bits;
 use samples::fault::{Fault, Rule};
 use samples::shape::Chroma;
 
-impl V216 {
-    // v216 for codes of 10, 12, 14 or 16 bits; else refused by 9.
-    pub fn new(bits: u32) -> Result<V216, Fault>
-        ensures { plain_v216 result ≡ v216_made bits }
-    {
-        if bits == 10 || bits == 12 || bits == 14 || bits == 16 {
+// v216 for codes of 10, 12, 14 or 16 bits; else refused by 9.
+impl TryFrom<u32> for V216 {
+    type Error = Fault;
+
+    ghost try_from_gives = { λ n r. plain_v216 r ≡ v216_made n };
+
+    fn try_from(bits: u32) -> Result<V216, Fault> {
+        if V216::takes(bits) {
             Ok(V216::wide(Bits { count: bits }))
         } else {
-            Err(Fault::of(Rule::Content, 0))
+            Err(Rule::Content.into())
         }
     }
 }
 
-impl Fixed for V216 {
+impl Format for V216 {
     const GROUP_PIXELS: u32 = 2;
 
     const GROUP_BYTES: u32 = 8;
 
-    const DEPTH: u16 = 24;
-}
+    const ROW_GROUPS: u32 = 1;
 
-impl Format for V216 {
+    const DEPTH: u16 = 24;
+
+    const CHROMA: Chroma = Chroma::Half;
+
+    const ALPHA: bool = false;
+
+    ghost GROUP_PIXELS = { 2 };
+
+    ghost GROUP_BYTES = { 8 };
+
+    ghost ROW_GROUPS = { 1 };
+
+    ghost DEPTH = { 24 };
+
+    ghost CHROMA = { Half };
+
+    ghost ALPHA = { false };
+
     ghost packing = { λ x. p_v216 x.bits };
 
     ghost proper = { λ x. proper_v216 x.bits x.allowed };
 
-    fn figures(&self) -> Figures {
-        Figures {
-            pixels: Self::GROUP_PIXELS,
-            bytes: Self::GROUP_BYTES,
-            depth: Self::DEPTH,
-            chroma: Chroma::Half,
-            alpha: false,
-            bits: self.bits(),
-        }
+    ghost fixed = { λ x. refl };
+
+    ghost filled = { λ x. filled_v216 x.bits };
+
+    fn bits(&self) -> Bits {
+        self.bits()
     }
 
-    fn row(&self, size: Size) -> u32 {
-        size.width * Self::GROUP_BYTES / Self::GROUP_PIXELS
-    }
-
-    fn start(&self, number: u32) -> u32 {
-        let n = self.bits().count;
-        entry(&[32 - n, 64 - n, 16 - n, 48 - n], number)
+    fn starts(&self) -> &[u32] {
+        self.starts()
     }
 }

@@ -1,3 +1,4 @@
 pub mod Packed
 pub mod Rows
 pub mod Groups
+pub mod Counting

@@ -5,13 +5,14 @@ ghost use Rattle.packing.specs.Rows.{row_at};
 ghost use Rattle.packing.specs.Groups;
 ghost use Rattle.std.proofs.Common.{rules};
 
-use crate::group::{first_run, holder_of, run_component, run_count};
+use crate::group::{Group, holder_of};
 use crate::rows::{shown_line, stored_line};
 use formats::format::Format;
 use layout::interface::{Layout, Shaped};
 use samples::bounds::Size;
 use samples::fault::{Fault, Rule};
 use samples::lines::AddressLine;
+use samples::parts::Parts;
 use samples::shape::{Shape, TimeKind};
 use samples::site::Site;
 
@@ -44,7 +45,7 @@ impl<F: Format> Packed<F> {
         ensures { result ≡ row_at (F.Format.packing self.now.format) self.now.size line }
     {
         if line.0 >= self.size.height {
-            return Err(Fault::of(Rule::NoSite, 0));
+            return Err(Rule::NoSite.into());
         }
         Ok(self.row_start(line))
     }
@@ -86,39 +87,31 @@ impl<F: Format> Layout for Packed<F> {
     fn locate(&self, site: Site) -> Result<u32, Fault> {
         let shape = self.shape();
         if !shape.has(site) {
-            return Err(Fault::of(Rule::NoSite, 0));
+            return Err(Rule::NoSite.into());
         }
-        let figures = self.format.figures();
-        let count = run_count(&figures, site.component);
-        let group = site.column / count;
-        let number = first_run(&figures, site.component) + site.column % count;
+        let group = Group::of(&self.format);
+        let bits = 8 * group.figures.bytes;
+        let count = group.count(site.component);
+        let number = group.before(site.component) + site.column % count;
         let start = self.format.start(number);
         let row = self.row_start(stored_line(site.line));
-        Ok(8 * row + group * (8 * figures.bytes) + start)
+        Ok(8 * row + site.column / count * bits + start)
     }
 
     fn owner(&self, bit: u32) -> Option<Site> {
-        let figures = self.format.figures();
+        let group = Group::of(&self.format);
         let row = 8 * self.row_bytes();
         let rest = bit % row;
-        let group = 8 * figures.bytes;
-        match holder_of(&self.format, rest % group) {
-            None => None,
-            Some(number) => {
-                let component = run_component(&figures, number);
-                let index = number - first_run(&figures, component);
-                let site = Site {
-                    component,
-                    column: rest / group * run_count(&figures, component) + index,
-                    line: shown_line(AddressLine(bit / row)),
-                };
-                if self.shape().has(site) {
-                    Some(site)
-                } else {
-                    None
-                }
-            }
-        }
+        let bits = 8 * group.figures.bytes;
+        let number = holder_of(&self.format, rest % bits)?;
+        let component = group.part_at(number);
+        let index = number - group.before(component);
+        let site = Site {
+            component,
+            column: rest / bits * group.count(component) + index,
+            line: shown_line(AddressLine(bit / row)),
+        };
+        self.shape().has(site).then_some(site)
     }
 
     fn fixed(&self, _bit: u32) -> bool {

@@ -1,4 +1,5 @@
 // The order of lines in a bare packing: picture line 0 first.
+// Two functions and no `From`: only an order of lines turns one count of lines into another.
 ghost use Rattle.std.specs.Prelude.{◌≡◌};
 ghost use Rattle.packing.specs.Rows.{stored_line, shown_line};
 
