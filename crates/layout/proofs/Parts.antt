@@ -2,6 +2,7 @@
 use Rattle.std.proofs.Common.{◌≡◌, ℕ, ◌+◌, ◌<◌, Bool, true, false, cond, ◌&&◌, eqb, ltb, List, length, get_or, Some, None, Ok, Option, sym, refl, ap, ◌∙◌, ⊎_elim, arith}
 use Rattle.std.proofs.lemmas.Bool.{cases_Bool, eqb-true, lt-ltb, le-ltb, cond-true, cond-false}
 use Rattle.std.proofs.lemmas.Bool.Decides.{nat_tests}
+use Rattle.image.specs.Bits.{written, width as code_width}
 use Rattle.image.proofs.Images.{Bytes}
 use Rattle.samples.specs.declared.component.Component.{Component}
 use Rattle.samples.specs.declared.component.Component.TheVariants.{Luma, Cb, Cr, Alpha}
@@ -10,13 +11,12 @@ use Rattle.samples.specs.declared.site.Site.{Site}
 use Rattle.samples.specs.Components.{component_number}
 use Rattle.samples.specs.Shapes.{columns, has}
 use Rattle.samples.specs.Lines.{first_of, index_of, site_of}
-use Rattle.layout.specs.Meaning.{Meaning, Lawful, width, located}
+use Rattle.layout.specs.Meaning.{Meaning, Lawful, width}
 use Rattle.layout.specs.Images.{rewritten, same_site, only, laid, part_laid}
-use Rattle.layout.specs.Reach.{written_where}
 use Rattle.layout.specs.Tests.{line_answer, line_written, part_written}
-use Rattle.layout.proofs.Sites.{same_component, same_site_true, has_parts, has_from}
-use Rattle.layout.proofs.Testing.{Passed, judged_passed, passed_line}
-use Rattle.layout.proofs.Writing.{later, rewritten_length, rewritten_ext, rewritten_twice, located_written, begins, goes_on}
+use Rattle.layout.proofs.Sites.{code_width_is, same_component, same_site_true, has_parts, has_from}
+use Rattle.layout.proofs.Testing.{Passed, judged_passed, line_passed}
+use Rattle.layout.proofs.Writing.{later, rewritten_length, rewritten_ext, rewritten_twice, written_only, begins, goes_on}
 
 -- the first n codes of a component
 abbrev pub part_below : Shape → ℕ → Component → List ℕ → ℕ → Site → Option ℕ
@@ -81,12 +81,16 @@ module _ (m : Meaning) (laws : Lawful m) (image : List ℕ) (line : ℕ) (codes 
     pub part_begun : Bytes image → image ≡ rewritten m (part_below m.shape line c codes 0) image
     part_begun small = begins m laws image small (part_below m.shape line c codes 0) (part_none m.shape line c codes)
 
-    pub part_step : (now' after : List ℕ) (n : ℕ) → n < columns m.shape c → line < m.shape.size.height → now' ≡ rewritten m (part_below m.shape line c codes n) image → after ≡ written_where (width m) (located m (site_of c n line)) (get_or codes (first_of m.shape c + n) 0) now' → after ≡ rewritten m (part_below m.shape line c codes (n + 1)) image
-    part_step now' after n h l inv e =
+    pub part_step : (now' after : List ℕ) (n b v : ℕ) → n < columns m.shape c → line < m.shape.size.height → now' ≡ rewritten m (part_below m.shape line c codes n) image → b ≡ m.start (site_of c n line) → v ≡ get_or codes (first_of m.shape c + n) 0 → after ≡ written (code_width (width m)) b v now' → after ≡ rewritten m (part_below m.shape line c codes (n + 1)) image
+    part_step now' after n b v h l inv at new e =
         let t : Shape = m.shape in
         let z : Site = site_of c n line in
-        let v : ℕ = get_or codes (first_of t c + n) 0 in
-        goes_on m laws image now' after (part_below t line c codes n) (only z v) (part_below t line c codes (n + 1)) (λ s _. part_more t line c codes n s) inv (e ∙ located_written m laws z (has_from t z h l) now' v)
+        let old : ℕ = get_or codes (first_of t c + n) 0 in
+        goes_on m laws image now' after (part_below t line c codes n) (only z old) (part_below t line c codes (n + 1)) (λ s _. part_more t line c codes n s) inv
+        (e ∙ ap (λ w. written w b v now') (code_width_is t)
+        ∙ ap (λ k. written (width m) k v now') at
+        ∙ ap (λ k. written (width m) (m.start z) k now') new
+        ∙ written_only m laws z (has_from t z h l) now' old)
 
     pub part_ended : (now' : List ℕ) (n : ℕ) → n ≡ columns m.shape c → now' ≡ rewritten m (part_below m.shape line c codes n) image → now' ≡ rewritten m (part_laid m.shape line c codes) image
     part_ended now' n e inv =
@@ -107,7 +111,7 @@ module _ (m : Meaning) (laws : Lawful m) (image : List ℕ) (line : ℕ) (codes 
   write_all c old r p long e =
       let new : Site → Option ℕ = part_laid m.shape line c codes in
       let is : r ≡ rewritten m new old =
-      e ∙ passed_line m old line (length codes) (λ _. old) (rewritten m new old) (record { long = long ∙ p.long; low = p.low; count = p.count }) in
+      e ∙ line_passed m old (λ _. old) (rewritten m new old) line (length codes) (long ∙ p.long) p.low p.count in
       (ap length is ∙ rewritten_length m new old ∙ long, is)
 
   -- the four components after each other
@@ -121,4 +125,4 @@ module _ (m : Meaning) (laws : Lawful m) (image : List ℕ) (line : ℕ) (codes 
       let w4 = write_all Alpha three four p w3.0 e4 in
       w4.1 ∙ ap (part Alpha) w3.1 ∙ ap (λ i. part Alpha (part Cr i)) w2.1 ∙ ap (λ i. part Alpha (part Cr (part Cb i))) w1.1
       ∙ parts_laid
-      ∙ sym (passed_line m image line (length codes) (λ _. image) (rewritten m (laid m.shape line codes) image) p)
+      ∙ sym (line_passed m image (λ _. image) (rewritten m (laid m.shape line codes) image) line (length codes) p.long p.low p.count)

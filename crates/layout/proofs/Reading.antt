@@ -1,9 +1,9 @@
 -- A component's codes of a line read one after the other, and a line's codes component by component.
-use Rattle.std.proofs.Common.{◌≡◌, ℕ, ◌+◌, ◌-◌, ◌<◌, ◌≤◌, List, ◌++◌, length, get_or, take, drop, set, Ok, sym, ap, ◌∙◌, ⊎_elim, zero-add, arith}
+use Rattle.std.proofs.Common.{◌≡◌, ℕ, ◌+◌, ◌-◌, ◌<◌, ◌≤◌, List, ◌++◌, length, get_or, take, drop, Ok, sym, ap, ◌∙◌, ⊎_elim, zero-add, arith}
 use lib.Seq.{paste}
 use Rattle.std.proofs.lemmas.List.FromFn.{length-map-range_with_len, get_or-map-range_with_len, fill_by_all}
-use Rattle.std.proofs.lemmas.List.Edits.{paste_more, paste_all, length-paste}
-use Rattle.std.proofs.lemmas.List.{length-take-le, get_or-take, get_or_append_left, get_or-append_right}
+use Rattle.std.proofs.lemmas.List.Edits.{paste_all, length-paste}
+use Rattle.std.proofs.lemmas.List.{drop-drop, length-take-le, get_or-take, get_or_append_left, get_or-append_right}
 use Rattle.std.proofs.lemmas.Bool.{cases_lt}
 use Rattle.samples.specs.declared.component.Component.{Component}
 use Rattle.samples.specs.declared.component.Component.TheVariants.{Luma, Cb, Cr, Alpha}
@@ -13,7 +13,7 @@ use Rattle.layout.specs.Meaning.{Meaning}
 use Rattle.layout.specs.Images.{held, line_held, part_held}
 use Rattle.layout.specs.Tests.{line_answer, line_read, part_read}
 use Rattle.layout.proofs.Sites.{site_here, count_fits}
-use Rattle.layout.proofs.Testing.{judged_passed, passed_line}
+use Rattle.layout.proofs.Testing.{judged_passed, line_passed}
 
 module _ (m : Meaning) (image : List ℕ) (line : ℕ) where
   -- the code at an index of the line
@@ -31,15 +31,18 @@ module _ (m : Meaning) (image : List ℕ) (line : ℕ) where
   part_get c x h = get_or-map-range_with_len (λ z. held m image (site_of c z line)) 0 (columns m.shape c) x x 0 h (zero-add x)
 
   module _ (c : Component) (codes : List ℕ) (count : length codes ≡ line_count m.shape) where
-    -- one code more
-    pub read_step : (now' : List ℕ) (first n v : ℕ) → first ≡ first_of m.shape c → n < columns m.shape c → now' ≡ paste codes (first_of m.shape c) (part_held m image line c) n → v ≡ held m image (site_of c n line) → set now' (first + n) v ≡ paste codes (first_of m.shape c) (part_held m image line c) (n + 1)
-    read_step now' first n v e h inv is =
+    -- codes put in their places
+    pub part_put : (items : List ℕ) (first n : ℕ) → first ≡ first_of m.shape c → n ≡ columns m.shape c → length items ≡ columns m.shape c → ((k : ℕ) → k < columns m.shape c → get_or items k 0 ≡ held m image (site_of c k line)) → take first codes ++ (items ++ drop n (drop first codes)) ≡ part_in c codes
+    part_put items first n e d long each =
         let f : ℕ = first_of m.shape c in
+        let k : ℕ = columns m.shape c in
         let s : List ℕ = part_held m image line c in
-        ap (λ k. set now' (k + n) v) e
-        ∙ ap (λ xs. set xs (f + n) v) inv
-        ∙ ap (set (paste codes f s n) (f + n)) (is ∙ sym (part_get c n h))
-        ∙ paste_more codes f s n 0 (omega (arith, count, count_fits m.shape c)) (omega (arith, part_length c))
+        let is : items ≡ s = fill_by_all (λ x. held m image (site_of c x line)) items k 0 long each in
+        ap (λ z. take z codes ++ (items ++ drop n (drop z codes))) e
+        ∙ ap (λ z. take f codes ++ (items ++ drop z (drop f codes))) d
+        ∙ ap (λ xs. take f codes ++ (xs ++ drop k (drop f codes))) is
+        ∙ ap (λ xs. take f codes ++ (s ++ xs)) (drop-drop k f codes)
+        ∙ sym (paste_all codes f s k (sym (part_length c)))
 
     -- after a component's, the codes up to its end are the line's, where those before it are
     part_next : ((k : ℕ) → k < first_of m.shape c → get_or codes k 0 ≡ code k) → (k : ℕ) → k < first_of m.shape c + columns m.shape c → get_or (part_in c codes) k 0 ≡ code k
@@ -70,7 +73,7 @@ module _ (m : Meaning) (image : List ℕ) (line : ℕ) where
 
   read_all : (c : Component) (codes r : List ℕ) → length image ≡ m.size → line < m.shape.size.height → length codes ≡ line_count m.shape → r ≡ part_read m image line c codes → (length r ≡ line_count m.shape) × (((k : ℕ) → k < first_of m.shape c → get_or codes k 0 ≡ code k) → (k : ℕ) → k < first_of m.shape c + columns m.shape c → get_or r k 0 ≡ code k)
   read_all c codes r long low count e =
-      let is : r ≡ part_in c codes = e ∙ passed_line m image line (length codes) (λ _. codes) (part_in c codes) (record { long = long; low = low; count = count }) in
+      let is : r ≡ part_in c codes = e ∙ line_passed m image (λ _. codes) (part_in c codes) line (length codes) long low count in
       (ap length is ∙ part_kept c codes count, λ before k h. ap (λ xs. get_or xs k 0) is ∙ part_next c codes count before k h)
 
   -- the four components after each other
@@ -83,4 +86,4 @@ module _ (m : Meaning) (image : List ℕ) (line : ℕ) where
       let r4 = read_all Alpha three four p.long p.low r3.0 e4 in
       let luma : (k : ℕ) → k < columns m.shape Luma → get_or one k 0 ≡ code k = λ k h. r1.1 (λ _ l. absurd (omega arith)) k (omega arith) in
       fill_by_all code four (line_count m.shape) 0 r4.0 (r4.1 (r3.1 (r2.1 luma)))
-      ∙ sym (passed_line m image line (length codes) (λ _. codes) (line_held m image line) p)
+      ∙ sym (line_passed m image (λ _. codes) (line_held m image line) line (length codes) p.long p.low p.count)

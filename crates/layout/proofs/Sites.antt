@@ -1,6 +1,8 @@
 -- Sites and the indices of their codes in a line.
-use Rattle.std.proofs.Common.{◌≡◌, ℕ, ◌+◌, ◌-◌, ◌<◌, ◌≤◌, true, cond, ◌&&◌, eqb, ltb, sym, refl, ap, ◌∙◌, subst, arith}
+use Rattle.std.proofs.Common.{◌≡◌, ℕ, ◌+◌, ◌-◌, ◌<◌, ◌≤◌, true, cond, ◌&&◌, eqb, ltb, List, length, get_or, take, drop, sym, refl, ap, ◌∙◌, arith}
+use Rattle.std.proofs.lemmas.List.{length-take-le, length-drop, get_or-take, get_or-drop}
 use Rattle.std.proofs.lemmas.Bool.{and_parts, and_from, eqb-true, eq-eqb, ltb-true, lt-ltb}
+use Rattle.image.specs.Bits.{width}
 use Rattle.samples.specs.declared.component.Component.{Component}
 use Rattle.samples.specs.declared.component.Component.TheVariants.{Luma, Cb, Cr, Alpha}
 use Rattle.samples.specs.declared.shape.Shape.{Shape}
@@ -8,7 +10,7 @@ use Rattle.samples.specs.declared.site.Site.{Site}
 use Rattle.samples.specs.Components.{component_number}
 use Rattle.samples.specs.Shapes.{columns, has}
 use Rattle.samples.specs.Lines.{first_of, line_count, index_of, site_of, site_at}
-use Rattle.samples.proofs.Dividing.{part_here, part_small, split_part}
+use Rattle.samples.proofs.Dividing.{part_here, part_small}
 use Rattle.layout.specs.Images.{same_site}
 
 -- ---- one site
@@ -57,28 +59,6 @@ module _ (t : Shape) (line : ℕ) where
       let i : ℕ = first_of t c + x in
       ap (λ k. site_of k (i - first_of t k) line) (part_here (columns t) c x h) ∙ ap (λ z. site_of c z line) (omega arith)
 
-  -- the site of an index is the only one on the line with it
-  pub site_is : (s : Site) → has t s ≡ true → s.line.0 ≡ line → s ≡ site_at t line (index_of t s)
-  site_is s h e =
-      ap (λ z. site_of s.component s.column z) e ∙ sym (site_here s.component s.column (has_parts t s h).0)
-
-  pub record Stands (i : ℕ) (s : Site) : Type 0 where
-    pub there : has t s ≡ true
-    pub on : s.line.0 ≡ line
-    pub index : index_of t s ≡ i
-
-  pub site_at_stands : (i : ℕ) → i < line_count t → line < t.size.height → Stands i (site_at t line i)
-  site_at_stands i h l =
-      let p = split_part (columns t) i h in
-      let c : Component = p.0 in
-      let x : ℕ = p.1 in
-      let e : site_at t line i ≡ site_of c x line = ap (site_at t line) p.3 ∙ site_here c x p.2 in
-      subst (Stands i) (sym e) (record {
-        there = has_from t (site_of c x line) p.2 l;
-        on = refl;
-        index = sym p.3;
-      })
-
 pub index_small : (t : Shape) (s : Site) → has t s ≡ true → index_of t s < line_count t
 index_small t s h = part_small (columns t) s.component s.column (has_parts t s h).0
 
@@ -88,3 +68,16 @@ count_fits t Luma = omega arith
 count_fits t Cb = omega arith
 count_fits t Cr = omega arith
 count_fits t Alpha = omega arith
+
+pub part_span : (t : Shape) (c : Component) (codes : List ℕ) (first n : ℕ) → length codes ≡ line_count t → first ≡ first_of t c → n ≡ columns t c → length (take n (drop first codes)) ≡ columns t c
+part_span t c codes first n count e d =
+    length-take-le n (drop first codes) (omega (arith, length-drop first codes, count, count_fits t c, e, d)) ∙ d
+
+-- the code at a column, among those of its component
+pub part_code : (t : Shape) (c : Component) (codes : List ℕ) (first n x : ℕ) → first ≡ first_of t c → x < n → get_or (take n (drop first codes)) x 0 ≡ get_or codes (first_of t c + x) 0
+part_code t c codes first n x e h =
+    get_or-take n (drop first codes) x 0 h ∙ get_or-drop first codes x 0 ∙ ap (λ k. get_or codes (k + x) 0) e
+
+-- a code has at most 16 bits
+pub code_width_is : (t : Shape) → width t.bits.count ≡ t.bits.count
+code_width_is t = omega (arith, t.bits.high)

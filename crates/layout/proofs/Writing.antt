@@ -1,16 +1,16 @@
 -- Codes written to an image, from a layout's laws.
-use Rattle.std.proofs.Common.{◌≡◌, ℕ, ◌+◌, ◌-◌, ◌*◌, ◌<◌, ◌≤◌, Bool, true, false, cond, ltb, leb, List, length, Some, None, Ok, Err, Option, sym, refl, ap, ◌∙◌, subst, ⊎_elim, arith}
+use Rattle.std.proofs.Common.{◌≡◌, ℕ, ◌+◌, ◌-◌, ◌*◌, ◌<◌, ◌≤◌, Bool, true, false, cond, ltb, leb, List, length, Some, None, Ok, Err, Option, Result, sym, refl, ap, ◌∙◌, subst, ⊎_elim, arith}
 use Rattle.std.proofs.lemmas.List.FromFn.{length-map-range_with_len}
 use Rattle.std.proofs.lemmas.Bool.{cases_Bool, both_ways, and_parts, ltb-true, leb-true, cond-true, cond-false}
 use Rattle.image.specs.Bits.{bit_of, number, bit, image_of, written}
 use Rattle.image.proofs.Images.{Bytes, image_is, in_run, run_in, image_of_ext, bit_image_of}
+use Rattle.samples.specs.declared.fault.Fault.{Fault}
 use Rattle.samples.specs.declared.site.Site.{Site}
 use Rattle.samples.specs.declared.fault.Rule.TheVariants.{NoSite}
 use Rattle.samples.specs.Faults.{refusal}
 use Rattle.samples.specs.Shapes.{has}
 use Rattle.layout.specs.Meaning.{Meaning, Lawful, width, located}
-use Rattle.layout.specs.Images.{bit_new, bit_written, rewritten, same_site, only, code_of, held}
-use Rattle.layout.specs.Reach.{read_where, written_where}
+use Rattle.layout.specs.Images.{bit_new, bit_written, rewritten, same_site, only}
 use Rattle.layout.proofs.Sites.{same_site_true, same_site_refl}
 use Rattle.layout.proofs.Following.{apart, same_some}
 
@@ -100,17 +100,15 @@ module _ (m : Meaning) (laws : Lawful m) where
         image_of_ext (length image) (λ b. cond (in_run (m.start s) (width m) b) (bit_of v (b - m.start s)) (bit image b)) (λ b. bit_written m (only s v) image b (m.owner b))
         (λ b _. bit_only image v b (m.owner b) refl)
 
-    pub located_written : (image : List ℕ) (v : ℕ) → written_where (width m) (located m s) v image ≡ rewritten m (only s v) image
-    located_written image v =
-        ap (λ b. written_where (width m) (cond b (Ok (m.start s)) (Err (refusal NoSite 0))) v image) there ∙ written_only image v
+-- the place that locate answers of a site that is there
+pub located_there : (m : Meaning) (s : Site) → has m.shape s ≡ true → located m s ≡ Ok (m.start s)
+located_there m s there = cond-true (has m.shape s) (Ok (m.start s)) (Err (refusal NoSite 0)) there
 
--- a code read at the place that locate answers is the code held there
-pub located_held : (m : Meaning) (image : List ℕ) (s : Site) → read_where (width m) (located m s) image ≡ held m image s
-located_held m image s = at (has m.shape s)
-  where
-    at : (b : Bool) → read_where (width m) (cond b (Ok (m.start s)) (Err (refusal NoSite 0))) image ≡ cond b (code_of m image s) 0
-    at true = refl
-    at false = refl
+ok_is : (r : Result ℕ Fault) (a b : ℕ) → r ≡ Ok a → r ≡ Ok b → a ≡ b
+ok_is r a b p q = cc
+
+pub located_start : (m : Meaning) (s : Site) (b : ℕ) → has m.shape s ≡ true → located m s ≡ Ok b → b ≡ m.start s
+located_start m s b there e = ok_is (located m s) b (m.start s) e (located_there m s there)
 
 -- ---- one write after another
 module _ (m : Meaning) (laws : Lawful m) (image : List ℕ) where

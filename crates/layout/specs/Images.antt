@@ -62,17 +62,16 @@ bit_written m new image b None = bit image b
 abbrev pub rewritten : Meaning → (Site → Option ℕ) → List ℕ → List ℕ
 rewritten m new image = image_of (length image) (λ b. bit_written m new image b (m.owner b))
 
--- a new code at one site
-abbrev pub same_site : Site → Site → Bool
-same_site a b =
-    (component_number a.component == component_number b.component) && (a.column == b.column && a.line.0 == b.line.0)
-
-abbrev pub only : Site → ℕ → Site → Option ℕ
-only s v z = cond (same_site s z) (Some v) None
-
 -- whether two components are one
 abbrev pub same_component : Component → Component → Bool
 same_component a b = component_number a == component_number b
+
+abbrev pub same_site : Site → Site → Bool
+same_site a b = same_component a.component b.component && (a.column == b.column && a.line.0 == b.line.0)
+
+-- a new code at one site
+abbrev pub only : Site → ℕ → Site → Option ℕ
+only s v z = cond (same_site s z) (Some v) None
 
 -- a new code at every site of a component
 abbrev pub filled : Component → ℕ → Site → Option ℕ
@@ -86,11 +85,6 @@ filled_row c v l n s =
 -- the codes of picture line l, each at its site
 abbrev pub laid : Shape → ℕ → List ℕ → Site → Option ℕ
 laid t l codes s = cond (s.line.0 == l) (Some (slice_index codes (index_of t s))) None
-
--- its first n codes alone
-abbrev pub laid_below : Shape → ℕ → List ℕ → ℕ → Site → Option ℕ
-laid_below t l codes n s =
-    cond (s.line.0 == l && nat_lt (index_of t s) n) (Some (slice_index codes (index_of t s))) None
 
 -- those of one component alone
 abbrev pub part_laid : Shape → ℕ → Component → List ℕ → Site → Option ℕ

@@ -1,4 +1,3 @@
 pub mod Meaning
 pub mod Images
-pub mod Reach
 pub mod Tests

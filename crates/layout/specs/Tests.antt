@@ -11,26 +11,24 @@ use Rattle.samples.specs.Shapes.{columns}
 use Rattle.layout.specs.Meaning.{Meaning}
 use Rattle.layout.specs.Images.{line_held, part_held, wiped, rewritten, laid, part_laid}
 
--- x where the image has the layout's length, else refused by 11
-abbrev pub sized : {X : Type 0} → Meaning → List ℕ → (Fault → X) → X → X
-sized m image refused x = cond (length image == m.size) x (refused (refusal ImageLength 0))
+-- x where an image of `have` bytes has the layout's `size`, else refused by 11
+abbrev pub length_tests : {X : Type 0} → ℕ → ℕ → (Fault → X) → X → X
+length_tests have size refused x = cond (have == size) x (refused (refusal ImageLength 0))
 
--- x where also the picture has line l, else refused by 12, and n codes make a line, else refused by 13
-abbrev pub line_tests : {X : Type 0} → Meaning → List ℕ → ℕ → ℕ → (Fault → X) → X → X
-line_tests m image l n refused x =
-    sized m image refused
-    (cond (nat_lt l m.shape.size.height)
-    (cond (n == line_count m.shape) x (refused (refusal CodeCount 0)))
-    (refused (refusal NoSite 0)))
-
--- the same by plain numbers: an image has `have` bytes, the layout's have `size`, and its shape is t
+-- x where also the picture, whose shape is t, has line l, else refused by 12, and n codes make a line, else refused by 13
 abbrev pub judged : {X : Type 0} → ℕ → ℕ → Shape → ℕ → ℕ → (Fault → X) → X → X
 judged have size t l n refused x =
-    cond (have == size)
+    length_tests have size refused
     (cond (nat_lt l t.size.height)
     (cond (n == line_count t) x (refused (refusal CodeCount 0)))
     (refused (refusal NoSite 0)))
-    (refused (refusal ImageLength 0))
+
+-- the same of an image under a layout
+abbrev pub sized : {X : Type 0} → Meaning → List ℕ → (Fault → X) → X → X
+sized m image refused x = length_tests (length image) m.size refused x
+
+abbrev pub line_tests : {X : Type 0} → Meaning → List ℕ → ℕ → ℕ → (Fault → X) → X → X
+line_tests m image l n refused x = judged (length image) m.size m.shape l n refused x
 
 abbrev pub wipe_answer : Meaning → List ℕ → Result (Unit {0}) Fault
 wipe_answer m image = sized m image Err (Ok tt)

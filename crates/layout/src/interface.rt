@@ -5,10 +5,10 @@ ghost use Rattle.image.specs.Bits.{number};
 ghost use Rattle.layout.specs.Meaning.{Meaning, Lawful, located};
 ghost use Rattle.layout.specs.Tests.{wipe_answer, wipe_image, line_answer, line_read, line_written, part_read, part_written};
 
-use crate::judge::judge_line;
+use crate::judge::{judge_image, judge_line};
 use crate::part::{AlphaPart, CbPart, CrPart, LumaPart, Part};
-use crate::reach::{read_at, write_at};
-use samples::fault::{Fault, Rule};
+use image::{read_code, write_code};
+use samples::fault::Fault;
 use samples::lines::PictureLine;
 use samples::shape::Shape;
 use samples::site::Site;
@@ -22,6 +22,8 @@ pub trait Shaped {
 }
 
 // A layout by its meaning: length, where each site's run starts, who owns each bit, and the value of each fixed bit.
+// That its shape is the one told stands in the clauses of four calls and not in the law alone: each call is to promise it.
+// Image, line and codes go as three: a struct of them would be made for each call and taken apart in it.
 pub trait Layout: Shaped {
     ghost meaning: { Self → Meaning };
 
@@ -52,7 +54,8 @@ pub trait Layout: Shaped {
         let mut byte = 0u8;
         // past the longest image no bit is set, and the number of a bit might not fit
         if at < 0x1000_0000 {
-            for k in 0..8u32 {
+            // the numbers of bits are counted: there is no slice to go over
+            for k in 0..8 {
                 if self.fixed(8 * at + k) {
                     byte += 1 << k;
                 }
@@ -66,11 +69,9 @@ pub trait Layout: Shaped {
         ensures answer { result ≡ wipe_answer (meaning self.now) image.old }
         ensures image { image.new ≡ wipe_image (meaning self.now) image.old }
     {
-        if image.len() != self.length() as usize {
-            return Err(Fault::of(Rule::ImageLength, 0));
-        }
-        for i in 0..image.len() {
-            image[i] = self.fixed_byte(i as u32);
+        judge_image(image.len(), self.length())?;
+        for (i, byte) in image.iter_mut().enumerate() {
+            *byte = self.fixed_byte(i as u32);
         }
         Ok(())
     }
@@ -80,23 +81,21 @@ pub trait Layout: Shaped {
         &self,
         image: &[u8],
         line: PictureLine,
-        part: &P,
         codes: &mut [u16],
     ) -> Result<(), Fault>
         ensures answer { result ≡ line_answer (meaning self.now) image.now line.0 codes.old }
-        ensures codes { codes.new ≡ part_read (meaning self.now) image.now line.0 (P.Part.which part.now) codes.old }
+        ensures codes { codes.new ≡ part_read (meaning self.now) image.now line.0 P.Part.COMPONENT codes.old }
     {
-        let component = part.component();
+        let component = P::COMPONENT;
         let shape = self.shape();
         judge_line(image.len(), self.length(), shape, line, codes.len())?;
-        let first = shape.first_of(component);
-        for column in 0..shape.columns(component) {
+        for (column, code) in codes[shape.places(component)].iter_mut().enumerate() {
             let start = self.locate(Site {
                 component,
-                column,
+                column: column as u32,
                 line,
-            });
-            codes[(first + column) as usize] = read_at(image, start, shape.bits);
+            })?;
+            *code = read_code(image, start, shape.bits.count);
         }
         Ok(())
     }
@@ -106,23 +105,21 @@ pub trait Layout: Shaped {
         &self,
         image: &mut [u8],
         line: PictureLine,
-        part: &P,
         codes: &[u16],
     ) -> Result<(), Fault>
         ensures answer { result ≡ line_answer (meaning self.now) image.old line.0 codes.now }
-        ensures image { image.new ≡ part_written (meaning self.now) image.old line.0 (P.Part.which part.now) codes.now }
+        ensures image { image.new ≡ part_written (meaning self.now) image.old line.0 P.Part.COMPONENT codes.now }
     {
-        let component = part.component();
+        let component = P::COMPONENT;
         let shape = self.shape();
         judge_line(image.len(), self.length(), shape, line, codes.len())?;
-        let first = shape.first_of(component);
-        for column in 0..shape.columns(component) {
+        for (column, code) in codes[shape.places(component)].iter().enumerate() {
             let start = self.locate(Site {
                 component,
-                column,
+                column: column as u32,
                 line,
-            });
-            write_at(image, start, shape.bits, codes[(first + column) as usize]);
+            })?;
+            write_code(image, start, shape.bits.count, *code);
         }
         Ok(())
     }
@@ -132,10 +129,10 @@ pub trait Layout: Shaped {
         ensures answer { result ≡ line_answer (meaning self.now) image.now line.0 codes.old }
         ensures codes { codes.new ≡ line_read (meaning self.now) image.now line.0 codes.old }
     {
-        self.read_part(image, line, &LumaPart, codes)?;
-        self.read_part(image, line, &CbPart, codes)?;
-        self.read_part(image, line, &CrPart, codes)?;
-        self.read_part(image, line, &AlphaPart, codes)
+        self.read_part::<LumaPart>(image, line, codes)?;
+        self.read_part::<CbPart>(image, line, codes)?;
+        self.read_part::<CrPart>(image, line, codes)?;
+        self.read_part::<AlphaPart>(image, line, codes)
     }
 
     // Writes the codes of a picture line: of each code the low n bits, and no bit beside their runs.
@@ -143,10 +140,10 @@ pub trait Layout: Shaped {
         ensures answer { result ≡ line_answer (meaning self.now) image.old line.0 codes.now }
         ensures image { image.new ≡ line_written (meaning self.now) image.old line.0 codes.now }
     {
-        self.write_part(image, line, &LumaPart, codes)?;
-        self.write_part(image, line, &CbPart, codes)?;
-        self.write_part(image, line, &CrPart, codes)?;
-        self.write_part(image, line, &AlphaPart, codes)
+        self.write_part::<LumaPart>(image, line, codes)?;
+        self.write_part::<CbPart>(image, line, codes)?;
+        self.write_part::<CrPart>(image, line, codes)?;
+        self.write_part::<AlphaPart>(image, line, codes)
     }
 
     ghost lawful: { (x : Self) → Lawful (meaning x) };

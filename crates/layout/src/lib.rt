@@ -5,4 +5,3 @@ pub mod interface;
 pub mod judge;
 pub mod laws;
 pub mod part;
-mod reach;

@@ -1,5 +1,5 @@
 -- Plane words are lawful.
-use Rattle.std.specs.Prelude.{◌≡◌, ℕ, ◌+◌, ◌-◌, ◌*◌, ◌/◌, ◌%◌, ◌^◌, ◌<◌, ◌≤◌, Bool, true, false, cond, Some, None, Option, nat_lt, refl}
+use Rattle.std.specs.Prelude.{◌≡◌, ℕ, ◌+◌, ◌-◌, ◌*◌, ◌/◌, ◌%◌, ◌<◌, ◌≤◌, Bool, true, false, cond, Some, None, Option, nat_lt, refl}
 use Rattle.std.proofs.Common.{◌∙◌}
 use Rattle.std.proofs.Math.Path.{ap, subst}
 use Rattle.std.proofs.Math.Nat.{mul_comm}
@@ -106,7 +106,3 @@ module _ (t : Shape) where
     unfixed = unfixed_word;
     outside = λ b l. (unowned (plane_words t) within_words held_word b l, unfixed_past b l);
   }
-
-  -- no start overflows
-  pub start_fits : (s : Site) → has t s ≡ true → word_start t s < 2 ^ 32
-  start_fits s there = omega (arith, words_le t, within_words s there)

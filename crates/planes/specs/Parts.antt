@@ -1,32 +1,16 @@
 -- The words of each component: where they lie, and how many there are at most.
-use Rattle.std.specs.Prelude.{◌≡◌, ℕ, zero, suc, ◌+◌, ◌-◌, ◌*◌, ◌<◌, ◌≤◌, Bool, true, false, cond, Some, None, nat_lt, refl}
-use Rattle.std.proofs.Common.{ap, subst, ◌∙◌, zero-le, mul_comm, mul-zero, arith}
+use Rattle.std.specs.Prelude.{◌≡◌, ℕ, zero, suc, ◌+◌, ◌-◌, ◌*◌, ◌^◌, ◌<◌, ◌≤◌, Bool, true, false, cond, Some, None, nat_lt, refl}
+use Rattle.std.proofs.Common.{ap, subst, ◌∙◌, mul_comm, mul-zero, arith}
 use Rattle.std.proofs.lemmas.Nat.{mul-le}
 use Rattle.std.proofs.lemmas.Bool.{ltb-true, lt-ltb, le-ltb, cond-true, cond-false}
 use Rattle.samples.specs.declared.component.Component.{Component}
 use Rattle.samples.specs.declared.component.Component.TheVariants.{Luma, Cb, Cr, Alpha}
-use Rattle.samples.specs.declared.shape.Chroma.{Chroma}
-use Rattle.samples.specs.declared.shape.Chroma.TheVariants.{Half, Full}
 use Rattle.samples.specs.declared.shape.Shape.{Shape}
 use Rattle.samples.specs.Parts.{part_at}
-use Rattle.samples.specs.Shapes.{chroma_columns, columns}
+use Rattle.samples.specs.Fitting.{columns_le}
+use Rattle.samples.specs.Shapes.{columns}
 use Rattle.samples.proofs.Dividing.{part_here, part_small, part_holds}
 use Rattle.planes.specs.Words.{plane, offset, words, plane_of}
-
--- ---- how many columns a component has at most
-chroma_le : (c : Chroma) (w : ℕ) → chroma_columns c w ≤ w
-chroma_le Half w = omega arith
-chroma_le Full w = omega arith
-
-alpha_le : (a : Bool) (w : ℕ) → cond a w 0 ≤ w
-alpha_le true w = omega arith
-alpha_le false w = zero-le
-
-pub columns_le : (t : Shape) (k : Component) → columns t k ≤ t.size.width
-columns_le t Luma = omega arith
-columns_le t Cb = chroma_le t.chroma t.size.width
-columns_le t Cr = chroma_le t.chroma t.size.width
-columns_le t Alpha = alpha_le t.alpha t.size.width
 
 positive : (h w i : ℕ) → i < h * w → 0 < w
 positive h zero i l = omega (arith, mul-zero h)
@@ -65,6 +49,9 @@ module _ (t : Shape) where
 
   pub words_le : words t ≤ 4 * (4096 * 2304)
   words_le = omega (arith, plane_le Luma, plane_le Cb, plane_le Cr, plane_le Alpha)
+
+  pub words_fit : words t < 2 ^ 32
+  words_fit = omega (arith, words_le)
 
   -- a word of a component, put against the words before
   pub in_part : (q : ℕ) (k : Component) → plane_of t q ≡ Some k → (offset t k ≤ q) × (0 < columns t k)

@@ -4,10 +4,13 @@ ghost use Rattle.planes.specs.Lawful.{planes_lawful};
 ghost use Rattle.std.proofs.Common.{rules};
 
 use crate::Planes;
+use image::{read_code, write_code};
 use layout::interface::{Layout, Shaped};
-use samples::component::Component;
+use layout::judge::judge_line;
+use layout::part::Part;
 use samples::fault::{Fault, Rule};
 use samples::lines::PictureLine;
+use samples::parts::Parts;
 use samples::shape::Shape;
 use samples::site::Site;
 
@@ -29,15 +32,15 @@ impl Layout for Planes {
     ghost same = { Prim.search rules };
 
     fn length(&self) -> u32 {
-        4 * self.words()
+        4 * self.whole()
     }
 
     fn locate(&self, site: Site) -> Result<u32, Fault> {
         if !self.shape.has(site) {
-            return Err(Fault::of(Rule::NoSite, 0));
+            return Err(Rule::NoSite.into());
         }
         let width = self.shape.columns(site.component);
-        Ok(32 * (self.offset(site.component) + (site.line.0 * width + site.column)))
+        Ok(32 * (self.before(site.component) + (site.line.0 * width + site.column)))
     }
 
     fn owner(&self, bit: u32) -> Option<Site> {
@@ -45,18 +48,14 @@ impl Layout for Planes {
             return None;
         }
         let word = bit / 32;
-        match self.plane_of(word) {
-            None => None,
-            Some(component) => {
-                let width = self.shape.columns(component);
-                let index = word - self.offset(component);
-                Some(Site {
-                    component,
-                    column: index % width,
-                    line: PictureLine(index / width),
-                })
-            }
-        }
+        let component = self.plane_of(word)?;
+        let width = self.shape.columns(component);
+        let index = word - self.before(component);
+        Some(Site {
+            component,
+            column: index % width,
+            line: PictureLine(index / width),
+        })
     }
 
     fn fixed(&self, bit: u32) -> bool {
@@ -71,37 +70,36 @@ impl Layout for Planes {
         (self.blank(at / 4) >> 24) as u8
     }
 
-    fn read_line(&self, image: &[u8], line: PictureLine, codes: &mut [u16]) -> Result<(), Fault> {
-        if image.len() != self.length() as usize {
-            return Err(Fault::of(Rule::ImageLength, 0));
+    // The words of a component follow one another, so a running position finds them: a code costs one sum, and no site is sought.
+    fn read_part<P: Part>(
+        &self,
+        image: &[u8],
+        line: PictureLine,
+        codes: &mut [u16],
+    ) -> Result<(), Fault> {
+        let component = P::COMPONENT;
+        judge_line(image.len(), self.length(), self.shape, line, codes.len())?;
+        let mut from = self.run_start(line, component);
+        for code in codes[self.shape.places(component)].iter_mut() {
+            *code = read_code(image, from, self.shape.bits.count);
+            from += 32;
         }
-        if line.0 >= self.shape.size.height {
-            return Err(Fault::of(Rule::NoSite, 0));
-        }
-        if codes.len() != self.shape.line_count() as usize {
-            return Err(Fault::of(Rule::CodeCount, 0));
-        }
-        self.read_plane(image, line, Component::Luma, codes);
-        self.read_plane(image, line, Component::Cb, codes);
-        self.read_plane(image, line, Component::Cr, codes);
-        self.read_plane(image, line, Component::Alpha, codes);
         Ok(())
     }
 
-    fn write_line(&self, image: &mut [u8], line: PictureLine, codes: &[u16]) -> Result<(), Fault> {
-        if image.len() != self.length() as usize {
-            return Err(Fault::of(Rule::ImageLength, 0));
+    fn write_part<P: Part>(
+        &self,
+        image: &mut [u8],
+        line: PictureLine,
+        codes: &[u16],
+    ) -> Result<(), Fault> {
+        let component = P::COMPONENT;
+        judge_line(image.len(), self.length(), self.shape, line, codes.len())?;
+        let mut to = self.run_start(line, component);
+        for code in codes[self.shape.places(component)].iter() {
+            write_code(image, to, self.shape.bits.count, *code);
+            to += 32;
         }
-        if line.0 >= self.shape.size.height {
-            return Err(Fault::of(Rule::NoSite, 0));
-        }
-        if codes.len() != self.shape.line_count() as usize {
-            return Err(Fault::of(Rule::CodeCount, 0));
-        }
-        self.write_plane(image, line, Component::Luma, codes);
-        self.write_plane(image, line, Component::Cb, codes);
-        self.write_plane(image, line, Component::Cr, codes);
-        self.write_plane(image, line, Component::Alpha, codes);
         Ok(())
     }
 }

@@ -4,7 +4,6 @@
 use samples::shape::Shape;
 
 pub mod interface;
-mod lines;
 pub mod make;
 #[cfg(test)]
 mod tests;

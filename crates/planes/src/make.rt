@@ -7,15 +7,17 @@ use crate::Planes;
 use samples::fault::Fault;
 use samples::shape::{Chroma, Shape, TimeKind};
 
-impl Planes {
-    // The plane words of a shape: every shape has them.
-    pub fn of(shape: Shape) -> Planes
-        ensures { result ≡ record { shape = shape } }
-    {
+// The plane words of a shape: every shape has them.
+impl From<Shape> for Planes {
+    ghost from_gives = { λ shape planes. planes ≡ record { shape = shape } };
+
+    fn from(shape: Shape) -> Planes {
         Planes { shape }
     }
+}
 
-    // The plane words of plain numbers, refused as their shape is: by 4, then by 9.
+impl Planes {
+    // The plane words of plain numbers, which are judged as their shape's: refused by 4, then by 9.
     pub fn new(
         width: u32,
         height: u32,
@@ -27,6 +29,6 @@ impl Planes {
         ensures { plain_planes result ≡ shape_made width height chroma alpha bits time }
     {
         let shape = Shape::new(width, height, chroma, alpha, bits, time)?;
-        Ok(Planes { shape })
+        Ok(Planes::from(shape))
     }
 }

@@ -8,14 +8,6 @@ use samples::shape::{Chroma, TimeKind};
 use samples::site::Site;
 use std::test::Fail;
 
-fn site(component: Component, column: u32, line: u32) -> Site {
-    Site {
-        component,
-        column,
-        line: PictureLine(line),
-    }
-}
-
 // Two columns, one line, half chroma, no alpha, codes of 10 bits.
 fn two_by_one() -> Result<Planes, Fault> {
     Planes::new(2, 1, Chroma::Half, false, 10, TimeKind::Progressive)
@@ -31,15 +23,15 @@ fn with_alpha() -> Result<Planes, Fault> {
 fn places(rt: HostRuntime) -> Result<(), Fail> {
     let planes = two_by_one()?;
     assert_eq!(rt; planes.length(), 16);
-    assert_eq!(rt; planes.locate(site(Component::Luma, 0, 0)), Ok(0));
-    assert_eq!(rt; planes.locate(site(Component::Luma, 1, 0)), Ok(32));
-    assert_eq!(rt; planes.locate(site(Component::Cb, 0, 0)), Ok(64));
-    assert_eq!(rt; planes.locate(site(Component::Cr, 0, 0)), Ok(96));
+    assert_eq!(rt; planes.locate(Site::at(Component::Luma, 0, 0)), Ok(0));
+    assert_eq!(rt; planes.locate(Site::at(Component::Luma, 1, 0)), Ok(32));
+    assert_eq!(rt; planes.locate(Site::at(Component::Cb, 0, 0)), Ok(64));
+    assert_eq!(rt; planes.locate(Site::at(Component::Cr, 0, 0)), Ok(96));
     assert_eq!(rt;
-        planes.locate(site(Component::Alpha, 0, 0)),
+        planes.locate(Site::at(Component::Alpha, 0, 0)),
         Err(Fault::of(Rule::NoSite, 0))
     );
-    assert_eq!(rt; planes.owner(41), Some(site(Component::Luma, 1, 0)));
+    assert_eq!(rt; planes.owner(41), Some(Site::at(Component::Luma, 1, 0)));
     assert_eq!(rt; planes.owner(42), None);
     assert_eq!(rt; planes.owner(128), None);
     Ok(())
@@ -50,10 +42,10 @@ fn places(rt: HostRuntime) -> Result<(), Fail> {
 fn goes_by_picture_line(rt: HostRuntime) -> Result<(), Fail> {
     let planes = with_alpha()?;
     assert_eq!(rt; planes.length(), 96);
-    assert_eq!(rt; planes.locate(site(Component::Luma, 1, 1)), Ok(96));
-    assert_eq!(rt; planes.locate(site(Component::Cb, 0, 2)), Ok(320));
-    assert_eq!(rt; planes.locate(site(Component::Alpha, 1, 2)), Ok(736));
-    assert_eq!(rt; planes.owner(743), Some(site(Component::Alpha, 1, 2)));
+    assert_eq!(rt; planes.locate(Site::at(Component::Luma, 1, 1)), Ok(96));
+    assert_eq!(rt; planes.locate(Site::at(Component::Cb, 0, 2)), Ok(320));
+    assert_eq!(rt; planes.locate(Site::at(Component::Alpha, 1, 2)), Ok(736));
+    assert_eq!(rt; planes.owner(743), Some(Site::at(Component::Alpha, 1, 2)));
     assert_eq!(rt; planes.owner(744), None);
     Ok(())
 }
@@ -127,11 +119,9 @@ fn refuses_a_length(rt: HostRuntime) -> Result<(), Fail> {
 }
 
 // The number, the layer and the place of a refusal.
-fn told(made: Result<Planes, Fault>) -> (u8, u8, u32) {
-    match made {
-        Ok(_) => (0, 0, 0),
-        Err(f) => (f.number(), f.layer(), f.place()),
-    }
+fn told(made: Result<Planes, Fault>) -> Option<(u8, u8, u32)> {
+    made.err()
+        .map(|fault| (fault.number(), fault.layer(), fault.place()))
 }
 
 // The size is judged before the code width.
@@ -139,10 +129,19 @@ fn told(made: Result<Planes, Fault>) -> (u8, u8, u32) {
 fn refuses_numbers(rt: HostRuntime) {
     let half = Chroma::Half;
     let time = TimeKind::Progressive;
-    assert_eq!(rt; told(Planes::new(3, 1, half, false, 10, time)), (4, 3, 0));
-    assert_eq!(rt; told(Planes::new(2, 1, half, false, 7, time)), (9, 2, 0));
-    assert_eq!(rt; told(Planes::new(3, 1, half, false, 7, time)), (4, 3, 0));
-    assert_eq!(rt; told(Planes::new(2, 1, half, false, 10, time)), (0, 0, 0));
+    assert_eq!(rt;
+        told(Planes::new(3, 1, half, false, 10, time)),
+        Some((4, 3, 0))
+    );
+    assert_eq!(rt;
+        told(Planes::new(2, 1, half, false, 7, time)),
+        Some((9, 2, 0))
+    );
+    assert_eq!(rt;
+        told(Planes::new(3, 1, half, false, 7, time)),
+        Some((4, 3, 0))
+    );
+    assert_eq!(rt; told(Planes::new(2, 1, half, false, 10, time)), None);
 }
 
 // The shape that was given is the shape that is told.
@@ -150,6 +149,6 @@ fn refuses_numbers(rt: HostRuntime) {
 fn tells_its_shape(rt: HostRuntime) -> Result<(), Fail> {
     let planes = with_alpha()?;
     assert_eq!(rt; planes.shape().size.height, 3);
-    assert_eq!(rt; Planes::of(planes.shape()), planes);
+    assert_eq!(rt; Planes::from(planes.shape()), planes);
     Ok(())
 }

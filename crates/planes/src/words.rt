@@ -1,60 +1,40 @@
 // The words by their numbers: whose they are, and what they hold with no code.
-ghost use Rattle.std.specs.Prelude.{◌≡◌, ◌*◌, ◌≤◌};
-ghost use Rattle.planes.specs.Words.{plane, offset, words, plane_of, blank_of};
+ghost use Rattle.std.specs.Prelude.{◌≡◌, ◌+◌, ◌*◌, ◌^◌, ◌<◌};
+ghost use Rattle.samples.specs.Shapes.{columns};
+ghost use Rattle.planes.specs.Parts.{words_fit};
+ghost use Rattle.planes.specs.Words.{plane, offset, plane_of, blank_of};
 
 use crate::Planes;
 use samples::component::Component;
+use samples::lines::PictureLine;
+use samples::parts::Parts;
 
-impl Planes {
-    // The words of a component.
-    pub(crate) fn plane(self, component: Component) -> u32
-        ensures value { result ≡ plane self.shape component }
-        ensures few { result ≤ 4096 * 2304 }
-    {
+// The words of an image, component by component.
+impl Parts for Planes {
+    ghost members = { λ x. plane x.shape };
+
+    ghost fits = { λ x. words_fit x.shape };
+
+    fn count(&self, component: Component) -> u32 {
         self.shape.columns(component) * self.shape.size.height
     }
+}
 
-    // The words before those of a component.
-    pub(crate) fn offset(self, component: Component) -> u32
-        ensures { result ≡ offset self.shape component }
+impl Planes {
+    // The first bit of a component's words of a line.
+    pub(crate) fn run_start(self, line: PictureLine, component: Component) -> u32
+        requires { line.0 < self.shape.size.height }
+        ensures value { result ≡ 32 * (offset self.shape component + line.0 * columns self.shape component) }
+        ensures room { result + 32 * columns self.shape component < 2 ^ 32 }
     {
-        let luma = self.plane(Component::Luma);
-        let chroma = self.plane(Component::Cb);
-        match component {
-            Component::Luma => 0,
-            Component::Cb => luma,
-            Component::Cr => luma + chroma,
-            Component::Alpha => luma + chroma + self.plane(Component::Cr),
-        }
-    }
-
-    // All words.
-    pub(crate) fn words(self) -> u32
-        ensures value { result ≡ words self.shape }
-        ensures few { result ≤ 4 * (4096 * 2304) }
-    {
-        self.plane(Component::Luma)
-            + self.plane(Component::Cb)
-            + self.plane(Component::Cr)
-            + self.plane(Component::Alpha)
+        32 * (self.before(component) + line.0 * self.shape.columns(component))
     }
 
     // The component of a word; past the words, none.
     pub(crate) fn plane_of(self, word: u32) -> Option<Component>
         ensures { result ≡ plane_of self.shape word }
     {
-        if word >= self.words() {
-            return None;
-        }
-        if word < self.offset(Component::Cb) {
-            Some(Component::Luma)
-        } else if word < self.offset(Component::Cr) {
-            Some(Component::Cb)
-        } else if word < self.offset(Component::Alpha) {
-            Some(Component::Cr)
-        } else {
-            Some(Component::Alpha)
-        }
+        (word < self.whole()).then(|| self.part_at(word))
     }
 
     // A word with no code: its kind alone; past the words, 0.

@@ -13,15 +13,15 @@ meant t c line o w p q = ap (λ z. z + line * w) p ∙ ap (λ z. offset t c + li
 pub overflow_add-result : goal.overflow_add-result
 overflow_add-result c =
     let t = c.args.self.shape in
-    omega (arith, meant t c.args.component c.args.line.0 _ _ c.offset.ensures c.columns.ensures, run_fits t c.args.line.0 c.requires c.args.component)
+    omega (arith, meant t c.args.component c.args.line.0 _ _ c.before-2.ensures c.columns.ensures, run_fits t c.args.line.0 c.requires c.args.component)
 
 pub overflow_mul-result-2 : goal.overflow_mul-result-2
 overflow_mul-result-2 c =
     let t = c.args.self.shape in
-    omega (arith, meant t c.args.component c.args.line.0 _ _ c.offset.ensures c.columns.ensures, run_fits t c.args.line.0 c.requires c.args.component)
+    omega (arith, meant t c.args.component c.args.line.0 _ _ c.before-2.ensures c.columns.ensures, run_fits t c.args.line.0 c.requires c.args.component)
 
 pub returns : goal.returns
 returns c =
     let t = c.args.self.shape in
-    let e = meant t c.args.component c.args.line.0 _ _ c.offset.ensures c.columns.ensures in
+    let e = meant t c.args.component c.args.line.0 _ _ c.before-2.ensures c.columns.ensures in
     record { value = ap (λ (z : ℕ). 32 * z) e; room = omega (arith, e, run_fits t c.args.line.0 c.requires c.args.component) }

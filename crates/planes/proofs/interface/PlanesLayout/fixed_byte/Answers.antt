@@ -1,5 +1,5 @@
 use Rattle.std.proofs.Common.{ℕ, ◌/◌, ◌^◌, sym, ap, ◌∙◌, arith}
-use Rattle.planes.specs.Blanks.{early_byte, last_byte}
+use Rattle.planes.proofs.Bytes.{early_byte, last_byte}
 use Rattle.planes.proofs.interface.PlanesLayout.fixed_byte.Goals as goal
 
 pub returns-then-at-ne3 : goal.returns-then-at-ne3

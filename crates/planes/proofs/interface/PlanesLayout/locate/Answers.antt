@@ -3,7 +3,7 @@ use Rattle.samples.specs.declared.shape.Shape.{Shape}
 use Rattle.samples.specs.declared.site.Site.{Site}
 use Rattle.samples.specs.Shapes.{has, columns}
 use Rattle.planes.specs.Words.{offset, word_start}
-use Rattle.planes.specs.Lawful.{start_fits}
+use Rattle.planes.proofs.Running.{start_fits}
 use Rattle.planes.proofs.interface.PlanesLayout.locate.Goals as goal
 
 -- the figures that were asked for make a start that fits
@@ -15,8 +15,8 @@ fits t s o w there p q =
 
 pub overflow_add-result-2 : goal.overflow_add-result-2
 overflow_add-result-2 c =
-    omega (arith, fits c.args.self.now.shape c.args.site _ _ (sym c.has.ensures ∙ c.if-not-has.false) c.offset.ensures c.columns-width.ensures)
+    omega (arith, fits c.args.self.now.shape c.args.site _ _ (sym c.has.ensures ∙ c.if-not-has.false) c.before-2.ensures c.columns-width.ensures)
 
 pub overflow_mul-result-2 : goal.overflow_mul-result-2
 overflow_mul-result-2 c =
-    omega (arith, fits c.args.self.now.shape c.args.site _ _ (sym c.has.ensures ∙ c.if-not-has.false) c.offset.ensures c.columns-width.ensures)
+    omega (arith, fits c.args.self.now.shape c.args.site _ _ (sym c.has.ensures ∙ c.if-not-has.false) c.before-2.ensures c.columns-width.ensures)
