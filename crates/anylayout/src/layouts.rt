@@ -26,6 +26,7 @@ pub enum AnyLayout {
     OrderedPlanes(Ordered<Planes>),
 }
 
+// The match of every method: nested generic layouts of two kinds each would lose the four names, and choose twice a call.
 macro_rules! each {
     ($any:expr, $x:ident => $said:expr) => {
         match $any {
@@ -73,6 +74,7 @@ impl Layout for AnyLayout {
         each!(self, x => x.fixed(bit))
     }
 
+    // From here on the interface could do it; handed on, the choice is made once a call, and the layout inside goes its own faster way.
     fn fixed_byte(&self, at: u32) -> u8 {
         each!(self, x => x.fixed_byte(at))
     }

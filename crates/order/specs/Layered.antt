@@ -1,11 +1,11 @@
 -- A line order over a lawful layout is lawful.
-use Rattle.std.specs.Prelude.{◌≡◌, ℕ, ◌+◌, ◌<◌, ◌≤◌, true, ◌&&◌, Some, None, Option, nat_lt, refl}
+use Rattle.std.specs.Prelude.{◌≡◌, ℕ, ◌+◌, ◌<◌, ◌≤◌, true, Some, None, Option, refl}
+use Rattle.std.specs.Option.{option_map}
 use Rattle.std.proofs.Common.{sym, ap, subst, ◌∙◌, arith}
 use Rattle.std.proofs.lemmas.Bool.Decides.{nat_tests}
 use Rattle.samples.specs.declared.component.Component.{Component}
-use Rattle.samples.specs.declared.component.Component.TheVariants.{Luma, Cb, Cr, Alpha}
-use Rattle.samples.specs.declared.shape.TimeKind.{TimeKind}
 use Rattle.samples.specs.declared.shape.Shape.{Shape}
+use Rattle.samples.specs.declared.shape.TimeKind.{TimeKind}
 use Rattle.samples.specs.declared.site.Site.{Site}
 use Rattle.samples.specs.Lines.{first_of, site_of}
 use Rattle.samples.specs.Shapes.{columns, has, retimed}
@@ -13,25 +13,8 @@ use Rattle.samples.specs.Times.{Bijection}
 use Rattle.layout.specs.Meaning.{Meaning, Lawful, width}
 use Rattle.layout.proofs.Sites.{has_parts, has_from}
 use Rattle.order.specs.declared.order.Order.{Order}
-use Rattle.order.specs.declared.order.Order.TheVariants.{Whole, TopThenBottom, BottomThenTop, TopWoven, BottomWoven}
-use Rattle.order.specs.Orders.{kind_of, stored}
-use Rattle.order.specs.Over.{over, shown, moved, moved_some}
-
--- ---- a shape has the same sites in any order of time
-pub columns_retimed : (k : TimeKind) (t : Shape) (c : Component) → columns (retimed k t) c ≡ columns t c
-columns_retimed k t Luma = refl
-columns_retimed k t Cb = refl
-columns_retimed k t Cr = refl
-columns_retimed k t Alpha = refl
-
-pub first_retimed : (k : TimeKind) (t : Shape) (c : Component) → first_of (retimed k t) c ≡ first_of t c
-first_retimed k t Luma = refl
-first_retimed k t Cb = refl
-first_retimed k t Cr = refl
-first_retimed k t Alpha = refl
-
-pub has_retimed : (k : TimeKind) (t : Shape) (s : Site) → has (retimed k t) s ≡ has t s
-has_retimed k t s = ap (λ w. nat_lt s.column w && nat_lt s.line.0 t.size.height) (columns_retimed k t s.component)
+use Rattle.order.specs.Orders.{stored}
+use Rattle.order.specs.Over.{over, shown, moved}
 
 -- ---- sites at other lines of the shape
 module _ (t : Shape) (f : ℕ → ℕ) (up : (l : ℕ) → l < t.size.height → f l < t.size.height) where
@@ -43,52 +26,35 @@ pub moved_back : (t : Shape) (f g : ℕ → ℕ) → ((l : ℕ) → l < t.size.h
 moved_back t f g back s h = ap (λ n. site_of s.component s.column n) (back s.line.0 (has_parts t s h).1)
 
 -- the owner below, of a bit that has an owner
-owner_below : (f : ℕ → ℕ) (o : Option Site) (s : Site) → moved_some f o ≡ Some s → (z : Site) × (o ≡ Some z) × (moved f z ≡ s)
+owner_below : (f : ℕ → ℕ) (o : Option Site) (s : Site) → option_map (moved f) o ≡ Some s → (z : Site) × (o ≡ Some z) × (moved f z ≡ s)
 owner_below f (Some z) s e = (z, refl, cc)
-owner_below f None s e = absurd (let z : ◌≡◌ {A = ℕ} 0 1 = cc in omega arith)
+owner_below f None s e = absurd cc
 
 -- the lines here and below are the same lines in another order
 pub lines : (o : Order) (h : ℕ) → Bijection h (shown o h) (stored o h)
-lines Whole h = record {
-  there = λ n l. l;
-  back = λ s l. l;
-  left = λ n l. refl;
-  right = λ s l. refl;
-}
-lines TopThenBottom h = record {
+lines o h = record {
   there = λ n l. grind (arith, nat_tests);
   back = λ s l. grind (arith, nat_tests);
   left = λ n l. grind (arith, nat_tests);
   right = λ s l. grind (arith, nat_tests);
 }
-lines BottomThenTop h = record {
-  there = λ n l. grind (arith, nat_tests);
-  back = λ s l. grind (arith, nat_tests);
-  left = λ n l. grind (arith, nat_tests);
-  right = λ s l. grind (arith, nat_tests);
-}
-lines TopWoven h = record {
-  there = λ n l. l;
-  back = λ s l. l;
-  left = λ n l. refl;
-  right = λ s l. refl;
-}
-lines BottomWoven h = record {
-  there = λ n l. l;
-  back = λ s l. l;
-  left = λ n l. refl;
-  right = λ s l. refl;
-}
+
+-- a shape has the same sites in any order of time
+pub columns_retimed : (k : TimeKind) (t : Shape) (c : Component) → columns (retimed k t) c ≡ columns t c
+columns_retimed k t c = refl
+
+pub first_retimed : (k : TimeKind) (t : Shape) (c : Component) → first_of (retimed k t) c ≡ first_of t c
+first_retimed k t c = refl
+
+pub has_retimed : (k : TimeKind) (t : Shape) (s : Site) → has (retimed k t) s ≡ has t s
+has_retimed k t s = refl
 
 module _ (o : Order) (m : Meaning) (laws : Lawful m) where
-  below : (s : Site) → has (retimed (kind_of o) m.shape) s ≡ true → has m.shape s ≡ true
-  below s h = sym (has_retimed (kind_of o) m.shape s) ∙ h
-
   stored_there : (s : Site) → has m.shape s ≡ true → has m.shape (moved (stored o m.shape.size.height) s) ≡ true
   stored_there s h = has_moved m.shape (stored o m.shape.size.height) (lines o m.shape.size.height).back s h
 
   -- the owner of a bit has its run there
-  held_there : (b : ℕ) (s : Site) → moved_some (shown o m.shape.size.height) (m.owner b) ≡ Some s → (has (retimed (kind_of o) m.shape) s ≡ true) × (m.start (moved (stored o m.shape.size.height) s) ≤ b) × (b < m.start (moved (stored o m.shape.size.height) s) + width m)
+  held_there : (b : ℕ) (s : Site) → option_map (moved (shown o m.shape.size.height)) (m.owner b) ≡ Some s → (has m.shape s ≡ true) × (m.start (moved (stored o m.shape.size.height) s) ≤ b) × (b < m.start (moved (stored o m.shape.size.height) s) + width m)
   held_there b s e =
       let f : ℕ → ℕ = stored o m.shape.size.height in
       let g : ℕ → ℕ = shown o m.shape.size.height in
@@ -97,7 +63,7 @@ module _ (o : Order) (m : Meaning) (laws : Lawful m) where
       let held = laws.held b z q.1 in
       let there : has m.shape s ≡ true = subst (λ y. has m.shape y ≡ true) q.2 (has_moved m.shape g (lines o m.shape.size.height).there z held.0) in
       let back : moved f s ≡ z = ap (moved f) (sym q.2) ∙ moved_back m.shape g f (lines o m.shape.size.height).left z held.0 in
-      (has_retimed (kind_of o) m.shape s ∙ there, subst (λ y. m.start y ≤ b) (sym back) held.1, subst (λ y. b < m.start y + width m) (sym back) held.2)
+      (there, subst (λ y. m.start y ≤ b) (sym back) held.1, subst (λ y. b < m.start y + width m) (sym back) held.2)
 
   pub over_lawful : Lawful (over o m)
   over_lawful =
@@ -105,9 +71,9 @@ module _ (o : Order) (m : Meaning) (laws : Lawful m) where
       let g : ℕ → ℕ = shown o m.shape.size.height in
       record {
         small = laws.small;
-        within = λ s h. laws.within (moved f s) (stored_there s (below s h));
-        owned = λ s h k l. ap (moved_some g) (laws.owned (moved f s) (stored_there s (below s h)) k l) ∙ ap Some (moved_back m.shape f g (lines o m.shape.size.height).right s (below s h));
+        within = λ s h. laws.within (moved f s) (stored_there s h);
+        owned = λ s h k l. ap (option_map (moved g)) (laws.owned (moved f s) (stored_there s h) k l) ∙ ap Some (moved_back m.shape f g (lines o m.shape.size.height).right s h);
         held = held_there;
         unfixed = λ b s e. let q = owner_below g (m.owner b) s e in laws.unfixed b q.0 q.1;
-        outside = λ b past. (ap (moved_some g) (laws.outside b past).0, (laws.outside b past).1);
+        outside = λ b past. (ap (option_map (moved g)) (laws.outside b past).0, (laws.outside b past).1);
       }

@@ -1,6 +1,6 @@
 -- What a layout means under a line order.
-use Rattle.std.specs.Prelude.{ℕ, cond, Some, None, Ok, Err, Option, Result, nat_lt}
-use Rattle.samples.specs.declared.fault.Fault.{Fault}
+use Rattle.std.specs.Prelude.{ℕ, cond, nat_lt}
+use Rattle.std.specs.Option.{option_map}
 use Rattle.samples.specs.declared.lines.PictureLine.{PictureLine}
 use Rattle.samples.specs.declared.site.Site.{Site}
 use Rattle.samples.specs.Lines.{site_of}
@@ -18,17 +18,13 @@ shown o h n = S o h n
 abbrev pub moved : (ℕ → ℕ) → Site → Site
 moved f s = site_of s.component s.column (f s.line.0)
 
-abbrev pub moved_some : (ℕ → ℕ) → Option Site → Option Site
-moved_some f None = None
-moved_some f (Some s) = Some (moved f s)
-
 -- the layout m with its picture lines in another order: line s is held by line `stored s` of m, and nothing else moves
 abbrev pub over : Order → Meaning → Meaning
 over o m = record {
   shape = retimed (kind_of o) m.shape;
   size = m.size;
   start = λ s. m.start (moved (stored o m.shape.size.height) s);
-  owner = λ b. moved_some (shown o m.shape.size.height) (m.owner b);
+  owner = λ b. option_map (moved (shown o m.shape.size.height)) (m.owner b);
   fixed = m.fixed;
 }
 
@@ -42,8 +38,3 @@ line_under o m l = line_by (stored o m.shape.size.height) m.shape.size.height l
 
 abbrev pub line_over : Order → Meaning → PictureLine → PictureLine
 line_over o m l = line_by (shown o m.shape.size.height) m.shape.size.height l
-
--- what is made of the order that a pair has, or of the refusal
-abbrev pub layered : {X : Type 0} → Result Order Fault → (Fault → X) → (Order → X) → X
-layered (Ok o) refused made = made o
-layered (Err f) refused made = refused f

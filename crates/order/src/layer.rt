@@ -1,14 +1,15 @@
 // A layout whose picture lines are those of the layout below, in another order.
-ghost use Rattle.std.specs.Prelude.{◌≡◌, Ok, Err};
+ghost use Rattle.std.specs.Prelude.{◌≡◌};
+ghost use Rattle.std.specs.Result.{result_map_both};
 ghost use Rattle.samples.specs.Shapes.{retimed};
 ghost use Rattle.order.specs.Orders.{order_of, kind_of};
-ghost use Rattle.order.specs.Over.{over, line_under, line_over, layered};
+ghost use Rattle.order.specs.Over.{over, line_under, line_over};
 ghost use Rattle.order.specs.Layered.{over_lawful};
 ghost use Rattle.std.proofs.Common.{rules};
 
 use crate::order::Order;
 use layout::interface::{Layout, Shaped, shape_of};
-use samples::fault::{Declined, Fault, Rule};
+use samples::fault::{Declined, Fault};
 use samples::lines::{AddressLine, PictureLine};
 use samples::shape::Shape;
 use samples::site::Site;
@@ -28,11 +29,12 @@ impl<L> Ordered<L> {
         Ordered { below, order }
     }
 
-    // The layer of a pair of fields and detail; refused by 9, it gives the layout below back.
+    // The layer of a pair of fields and detail: numbers, since they are judged here. Refused by 9, it gives the layout below back.
     pub fn new(below: L, fields: u8, detail: u8) -> Result<Ordered<L>, Declined<L>>
-        ensures { result ≡ layered (order_of fields detail) (λ f. Err (record { fault = f; back = below })) (λ o. Ok (record { below = below; order = o })) }
+        ensures { result ≡ result_map_both (λ o. record { below = below; order = o }) (λ f. record { fault = f; back = below }) (order_of fields detail) }
     {
-        match Order::of(fields, detail) {
+        // Either arm moves `below`, which two closures of combinators could not both do.
+        match Order::try_from((fields, detail)) {
             Ok(order) => Ok(Ordered { below, order }),
             Err(fault) => Err(Declined { fault, back: below }),
         }
@@ -45,10 +47,9 @@ impl<L: Layout> Ordered<L> {
         ensures { result ≡ line_under self.now.order (L.Layout.meaning self.now.below) line }
     {
         let height = shape_of(&self.below).size.height;
-        match self.order.address_line(height, line) {
-            Some(at) => PictureLine(at.0),
-            None => line,
-        }
+        self.order
+            .address_line(height, line)
+            .map_or(line, |at| PictureLine(at.0))
     }
 
     // The picture line that a picture line below holds; one that the picture lacks stays.
@@ -56,10 +57,9 @@ impl<L: Layout> Ordered<L> {
         ensures { result ≡ line_over self.now.order (L.Layout.meaning self.now.below) line }
     {
         let height = shape_of(&self.below).size.height;
-        match self.order.picture_at(height, AddressLine(line.0)) {
-            Some(shown) => shown,
-            None => line,
-        }
+        self.order
+            .picture_at(height, AddressLine(line.0))
+            .unwrap_or(line)
     }
 }
 
@@ -83,31 +83,24 @@ impl<L: Layout> Layout for Ordered<L> {
     }
 
     fn locate(&self, site: Site) -> Result<u32, Fault> {
-        if !shape_of(&self.below).has(site) {
-            return Err(Fault::of(Rule::NoSite, 0));
-        }
         self.below.locate(Site {
-            component: site.component,
-            column: site.column,
             line: self.line_below(site.line),
+            ..site
         })
     }
 
     fn owner(&self, bit: u32) -> Option<Site> {
-        match self.below.owner(bit) {
-            None => None,
-            Some(site) => Some(Site {
-                component: site.component,
-                column: site.column,
-                line: self.line_above(site.line),
-            }),
-        }
+        self.below.owner(bit).map(|site| Site {
+            line: self.line_above(site.line),
+            ..site
+        })
     }
 
     fn fixed(&self, bit: u32) -> bool {
         self.below.fixed(bit)
     }
 
+    // From here on the interface could do it; handed on, the layout below goes its own faster way.
     fn fixed_byte(&self, at: u32) -> u8 {
         self.below.fixed_byte(at)
     }

@@ -17,21 +17,25 @@ pub enum Order {
     BottomWoven,
 }
 
-impl Order {
-    // The order of a pair of fields and detail; any other pair is refused by 9.
-    pub fn of(fields: u8, detail: u8) -> Result<Order, Fault>
-        ensures { result ≡ order_of fields detail }
-    {
-        match (fields, detail) {
+// The order of a pair of fields and detail; any other pair is refused by 9.
+impl TryFrom<(u8, u8)> for Order {
+    type Error = Fault;
+
+    ghost try_from_gives = { λ pair made. made ≡ order_of pair.0 pair.1 };
+
+    fn try_from(pair: (u8, u8)) -> Result<Order, Fault> {
+        match pair {
             (1, 0) => Ok(Order::Whole),
             (2, 1) => Ok(Order::TopThenBottom),
             (2, 6) => Ok(Order::BottomThenTop),
             (2, 9) => Ok(Order::TopWoven),
             (2, 14) => Ok(Order::BottomWoven),
-            _ => Err(Fault::of(Rule::Content, 0)),
+            _ => Err(Rule::Content.into()),
         }
     }
+}
 
+impl Order {
     // The order of its lines in time.
     pub fn time_kind(self) -> TimeKind
         ensures { result ≡ kind_of self }
@@ -58,21 +62,18 @@ impl Order {
     pub fn address_line(self, height: u32, line: PictureLine) -> Option<AddressLine>
         ensures { result ≡ address_line_of self height line }
     {
-        match self.rule().time_line(height, line) {
-            Some(at) => Some(AddressLine(at.0)),
-            None => None,
-        }
+        self.rule()
+            .time_line(height, line)
+            .map(|at| AddressLine(at.0))
     }
 
     // The picture line that is stored at an address line, if a picture of that height has it.
+    // This and `time_at` go by the note's formulas and not by the time kinds' own: that both agree is the theorem below.
     pub fn picture_at(self, height: u32, line: AddressLine) -> Option<PictureLine>
         ensures { result ≡ picture_at_of self height line }
     {
         let n = line.0;
-        if n >= height {
-            return None;
-        }
-        let s = match self {
+        (n < height).then(|| PictureLine(match self {
             Order::TopThenBottom => {
                 let boundary = height - height / 2;
                 if n >= boundary {
@@ -90,8 +91,7 @@ impl Order {
                 }
             }
             Order::Whole | Order::TopWoven | Order::BottomWoven => n,
-        };
-        Some(PictureLine(s))
+        }))
     }
 
     // When the line at an address line comes, if a picture of that height has it.
@@ -99,10 +99,7 @@ impl Order {
         ensures { result ≡ time_at_of self height line }
     {
         let n = line.0;
-        if n >= height {
-            return None;
-        }
-        let t = match self {
+        (n < height).then(|| TimeLine(match self {
             Order::TopWoven => {
                 if n % 2 == 0 {
                     n / 2
@@ -118,8 +115,7 @@ impl Order {
                 }
             }
             Order::Whole | Order::TopThenBottom | Order::BottomThenTop => n,
-        };
-        Some(TimeLine(t))
+        }))
     }
 }
 
