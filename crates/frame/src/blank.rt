@@ -11,7 +11,7 @@ use samples::fault::Fault;
 use samples::lines::PictureLine;
 use samples::shape::Shape;
 
-// A line has at most four components of 4,096 columns.
+// A line has at most four components of 4,096 columns. The used part of such a room stands beside it, since a call on a frame allocates nothing.
 const LONGEST: usize = 16384;
 
 // A line at rest.
@@ -19,8 +19,8 @@ fn rest_line(shape: Shape, codes: &mut [u16])
     requires { length codes.old ≡ line_count shape }
     ensures { codes.new ≡ map (rest_at shape) (range_with_len 0 (line_count shape)) }
 {
-    for i in 0..codes.len() {
-        codes[i] = shape
+    for (i, code) in codes.iter_mut().enumerate() {
+        *code = shape
             .site_at(PictureLine(0), i as u32)
             .component
             .rest(shape.bits);
@@ -37,6 +37,7 @@ pub(crate) fn blank<L: Layout>(layout: &L, image: &mut [u8]) -> Result<(), Fault
     let mut room = [0u16; LONGEST];
     let codes = &mut room[0..shape.line_count() as usize];
     rest_line(shape, codes);
+    // lines are counted: where one lies is the layout's affair, so no slice holds them
     for line in 0..shape.size.height {
         layout.write_line(image, PictureLine(line), codes)?;
     }

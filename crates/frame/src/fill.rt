@@ -1,7 +1,7 @@
 // Writing one code at every site of a component.
-ghost use Rattle.std.specs.Prelude.{◌≡◌, ◌<◌, true};
-ghost use Rattle.samples.specs.Shapes.{columns, has};
-ghost use Rattle.layout.specs.Images.{rewritten, only, filled, filled_row};
+ghost use Rattle.std.specs.Prelude.{◌≡◌, true};
+ghost use Rattle.samples.specs.Shapes.{has};
+ghost use Rattle.layout.specs.Images.{rewritten, only, filled};
 
 use image::write_code;
 use layout::interface::{Layout, shape_of};
@@ -19,28 +19,7 @@ fn write_site<L: Layout>(layout: &L, image: &mut [u8], site: Site, code: u16)
     }
 }
 
-// Writes a code at every column of a component on a line.
-fn fill_row<L: Layout>(
-    layout: &L,
-    image: &mut [u8],
-    component: Component,
-    line: PictureLine,
-    code: u16,
-)
-    requires { line.0 < (L.Layout.meaning layout.now).shape.size.height }
-    ensures { image.new ≡ rewritten (L.Layout.meaning layout.now) (filled_row component code line.0 (columns (L.Layout.meaning layout.now).shape component)) image.old }
-{
-    for column in 0..shape_of(layout).columns(component) {
-        let site = Site {
-            component,
-            column,
-            line,
-        };
-        write_site(layout, image, site, code);
-    }
-}
-
-// Writes a code at every site of a component.
+// Writes a code at every site of a component. Sites are counted: where one lies is the layout's affair, so no slice holds them.
 pub(crate) fn fill_component<L: Layout>(
     layout: &L,
     image: &mut [u8],
@@ -49,7 +28,15 @@ pub(crate) fn fill_component<L: Layout>(
 )
     ensures { image.new ≡ rewritten (L.Layout.meaning layout.now) (filled component code) image.old }
 {
-    for line in 0..shape_of(layout).size.height {
-        fill_row(layout, image, component, PictureLine(line), code);
+    let shape = shape_of(layout);
+    for line in 0..shape.size.height {
+        for column in 0..shape.columns(component) {
+            let site = Site {
+                component,
+                column,
+                line: PictureLine(line),
+            };
+            write_site(layout, image, site, code);
+        }
     }
 }
