@@ -1,12 +1,16 @@
 -- A picture laid line by line, and its codes taken back. m is what the layout means; codes has the codes of all lines, one
 -- line after the other.
-use Rattle.std.specs.Prelude.{◌≡◌, ℕ, zero, suc, ◌*◌, ◌/◌, ◌%◌, ◌<◌, cond, List, map, length, take as first, drop, Ok, Err, Result, ◌==◌, slice_index}
+use Rattle.std.specs.Prelude.{ℕ, zero, suc, ◌*◌, ◌/◌, ◌%◌, cond, List, map, length, take as first, drop, ◌==◌}
 use Rattle.std.specs.List.{range_with_len}
-use Rattle.samples.specs.declared.fault.Fault.{Fault}
+use Rattle.std.specs.Result.{result_unwrap_or}
+use Rattle.samples.specs.declared.component.Component.{Component}
 use Rattle.samples.specs.declared.shape.Shape.{Shape}
-use Rattle.samples.specs.Lines.{line_count, site_at}
+use Rattle.samples.specs.declared.site.Site.{Site}
+use Rattle.samples.specs.Lines.{line_count, site_of, site_at}
+use Rattle.samples.specs.Shapes.{columns}
 use Rattle.layout.specs.Meaning.{Meaning}
 use Rattle.layout.specs.Tests.{sized}
+use Rattle.frame.specs.declared.making.Making.{Making}
 use Rattle.frame.specs.Calls.{Call, lay, take, answered, image_after, lines_after, blanked}
 
 -- how many codes a picture has
@@ -22,6 +26,10 @@ pub record Frame : Type 0 where
   pub come : ℕ
   pub image : List ℕ
 
+-- a frame with its image
+abbrev pub in_image : {L : Type 0} → Making L → List ℕ → Frame
+in_image x image = record { come = x.come; image = image }
+
 -- the frame after a call
 abbrev pub after : Meaning → Frame → Call → Frame
 after m f call = record { come = lines_after m f.come f.image call; image = image_after m f.come f.image call }
@@ -31,9 +39,13 @@ unfoldable pub after_lays : Meaning → List ℕ → Frame → ℕ → Frame
 after_lays m codes f zero = f
 after_lays m codes f (suc n) = after m (after_lays m codes f n) (lay (line_of m.shape codes n))
 
+-- every line laid in an image, where none had come
+abbrev pub all_laid : Meaning → List ℕ → List ℕ → Frame
+all_laid m codes image = after_lays m codes (record { come = 0; image = image }) m.shape.size.height
+
 -- begun in an image, then laid line by line
 abbrev pub laid_frame : Meaning → List ℕ → List ℕ → Frame
-laid_frame m codes image = after_lays m codes (record { come = 0; image = blanked m image }) m.shape.size.height
+laid_frame m codes image = all_laid m codes (blanked m image)
 
 -- x where the codes are those of a whole picture and the image has the layout's length, else y
 abbrev pub if_whole : {X : Type 0} → Meaning → List ℕ → List ℕ → X → X → X
@@ -45,19 +57,21 @@ lines_laid m codes image = if_whole m codes image (laid_frame m codes image).com
 abbrev pub image_laid : Meaning → List ℕ → List ℕ → List ℕ
 image_laid m codes image = if_whole m codes image (laid_frame m codes image).image image
 
--- a code that was answered, 0 where it was refused
-abbrev pub code_or_0 : Result ℕ Fault → ℕ
-code_or_0 (Ok v) = v
-code_or_0 (Err f) = 0
+-- what a take answers at a site, 0 where it is refused
+abbrev pub code_taken : Meaning → Frame → Site → ℕ
+code_taken m f s = result_unwrap_or (answered m f.come f.image (take s)) 0
+
+-- the codes of component c on line l, as they are taken
+abbrev pub row_taken : Meaning → Frame → Component → ℕ → List ℕ
+row_taken m f c l = map (λ x. code_taken m f (site_of c x l)) (range_with_len 0 (columns m.shape c))
+
+-- the codes of line l, as they are taken
+abbrev pub line_taken : Meaning → Frame → ℕ → List ℕ
+line_taken m f l = map (λ i. code_taken m f (site_at m.shape l i)) (range_with_len 0 (line_count m.shape))
 
 -- what a take answers at index i of the codes of all lines
 abbrev pub code_back : Meaning → Frame → ℕ → ℕ
-code_back m f i =
-    code_or_0 (answered m f.come f.image (take (site_at m.shape (i / line_count m.shape) (i % line_count m.shape))))
-
--- the first n codes have been taken back
-abbrev pub BackBelow : Meaning → Frame → List ℕ → ℕ → Type 0
-BackBelow m f back n = (i : ℕ) → i < n → slice_index back i ≡ code_back m f i
+code_back m f i = code_taken m f (site_at m.shape (i / line_count m.shape) (i % line_count m.shape))
 
 -- every code taken back
 abbrev pub codes_back : Meaning → Frame → List ℕ

@@ -3,9 +3,9 @@ use crate::v210::{tiwaneb_v210_carry, tiwaneb_v210_lay};
 
 // The first 8 bytes; a part of a slice in a function of its own, so that each test stays short.
 fn words(image: &[u8; 128]) -> [u8; 8] {
-    [
-        image[0], image[1], image[2], image[3], image[4], image[5], image[6], image[7],
-    ]
+    let mut words = [0; 8];
+    words.copy_from_slice(&image[..8]);
+    words
 }
 
 // 100 + 64 * 1024 + 900 * 1048576 = 0x38410064, and 940 = 0x3ac.

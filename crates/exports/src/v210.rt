@@ -16,10 +16,11 @@ pub extern "C" fn tiwaneb_v210_lay(width: u32, height: u32, codes: &[u16], image
     ensures answer { AtSize width height (λ z. lines_laid (packed p_v210 z) codes.now image.old) 0 result }
     ensures image { AtSize width height (λ z. image_laid (packed p_v210 z) codes.now image.old) image.old image.new }
 {
-    match Size::new(width, height) {
-        Ok(size) => lay_picture(Packed::new(V210, size), codes, image),
-        Err(_) => 0,
-    }
+    // with `map_or` all is proved but what the image holds in the end, since the closure borrows it
+    let Ok(size) = Size::new(width, height) else {
+        return 0;
+    };
+    lay_picture(Packed::new(V210, size), codes, image)
 }
 
 // The same, and then takes every code back, in the order of `codes`; `back` must be as long as these.
@@ -35,8 +36,8 @@ pub extern "C" fn tiwaneb_v210_carry(
     ensures image { AtSize width height (λ z. image_carried (packed p_v210 z) codes.now image.old back.old) image.old image.new }
     ensures codes { AtSize width height (λ z. codes_carried (packed p_v210 z) codes.now image.old back.old) back.old back.new }
 {
-    match Size::new(width, height) {
-        Ok(size) => carry_picture(Packed::new(V210, size), codes, image, back),
-        Err(_) => 0,
-    }
+    let Ok(size) = Size::new(width, height) else {
+        return 0;
+    };
+    carry_picture(Packed::new(V210, size), codes, image, back)
 }

@@ -1,9 +1,9 @@
-use Rattle.std.proofs.Common.{◌+◌, ◌*◌}
-use Rattle.samples.specs.Lines.{first_of, line_count}
-use Rattle.exports.specs.Frames.{BackBelow}
+use Rattle.std.proofs.Common.{◌≡◌, ℕ, ◌<◌, slice_index}
+use Rattle.samples.specs.Lines.{site_of}
+use Rattle.exports.specs.Frames.{code_taken}
 use Rattle.exports.proofs.back.take_row.Given as goal
 
 abbrev pub invariant-loop-column : goal.invariant-loop-column
 invariant-loop-column g l =
     let m = g.L.Layout.meaning l.frame.layout in
-    BackBelow m (record { come = l.frame.come; image = l.image }) l.back (l.line.0 * line_count m.shape + first_of m.shape l.component + l.column)
+    (x : ℕ) → x < l.column → slice_index l.row x ≡ code_taken m (record { come = l.frame.come; image = l.image }) (site_of l.component x l.line.0)
