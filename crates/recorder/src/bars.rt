@@ -9,12 +9,26 @@ use samples::lines::PictureLine;
 use samples::shape::Shape;
 use std::alloc::{AllocError, Global};
 
+// The codes of a bar at a column where no bar begins.
+#[derive(Clone, Copy)]
+struct Bar {
+    luma: u16,
+    cb: u16,
+    cr: u16,
+}
+
 // White, yellow, cyan, green, magenta, red, blue, black.
-const LUMA: [u16; 8] = [721, 646, 525, 450, 335, 260, 139, 64];
-
-const CB: [u16; 8] = [512, 176, 625, 289, 735, 399, 848, 512];
-
-const CR: [u16; 8] = [512, 567, 176, 231, 793, 848, 457, 512];
+#[rattlefmt::skip]
+const BARS: [Bar; 8] = [
+    Bar { luma: 721, cb: 512, cr: 512 },
+    Bar { luma: 646, cb: 176, cr: 567 },
+    Bar { luma: 525, cb: 625, cr: 176 },
+    Bar { luma: 450, cb: 289, cr: 231 },
+    Bar { luma: 335, cb: 735, cr: 793 },
+    Bar { luma: 260, cb: 399, cr: 848 },
+    Bar { luma: 139, cb: 848, cr: 457 },
+    Bar { luma: 64, cb: 512, cr: 512 },
+];
 
 const OPAQUE: u16 = 940;
 
@@ -35,30 +49,31 @@ fn bar_code(wide: u32, component: Component, column: u32) -> u16
     requires { (column < wide) × (wide ≤ 4096) }
     ensures { result ≡ bar_code wide component column }
 {
-    let bar = bar_of(wide, column);
+    let at = bar_of(wide, column);
+    let bar = BARS[at];
     match component {
         Component::Luma => {
-            if bar != bar_of(wide, column.saturating_sub(1)) {
-                LUMA[bar] - UNDERSHOOT
+            if at != bar_of(wide, column.saturating_sub(1)) {
+                bar.luma - UNDERSHOOT
             } else {
-                LUMA[bar]
+                bar.luma
             }
         }
-        Component::Cb => CB[bar],
-        Component::Cr => CR[bar],
+        Component::Cb => bar.cb,
+        Component::Cr => bar.cr,
         Component::Alpha => OPAQUE,
     }
 }
 
 // The codes of a line.
+// A chain here and in carry's `rest_line`: a generic function of the code at a site was tried, and its call with `bar_code`'s requires did not close.
 pub(crate) fn bars_line(heap: Global, shape: Shape) -> Result<Vec<u16>, AllocError>
     ensures { IfOk result (λ v. v.items ≡ map (bar_at shape) (range_with_len 0 (line_count shape))) }
 {
-    let mut codes = Vec::new(heap);
-    for i in 0..shape.line_count() {
-        let site = shape.site_at(PictureLine(0), i);
-        let wide = shape.columns(site.component);
-        codes.push(bar_code(wide, site.component, site.column))?;
-    }
-    Ok(codes)
+    (0..shape.line_count())
+        .map(|i| {
+            let site = shape.site_at(PictureLine(0), i);
+            bar_code(shape.columns(site.component), site.component, site.column)
+        })
+        .collect(heap)
 }

@@ -1,0 +1,5 @@
+// Showing: a recorder's layout, and the steps in which the programs show it.
+#![tactic(auto)]
+
+pub mod recorder;
+pub mod steps;
