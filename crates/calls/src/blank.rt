@@ -1,10 +1,11 @@
 // Begin and restart: blank images byte for byte, and an image of the wrong length.
-use crate::given::{site, small};
+use crate::given::small;
 use anypacking::packings::AnyPacking;
 use frame::making::Making;
 use planes::Planes;
 use samples::component::Component;
 use samples::shape::{Chroma, TimeKind};
+use samples::site::Site;
 use std::test::Fail;
 
 // Refused by 11, begin writes nothing and gives the layout back; that layout then begins.
@@ -12,18 +13,16 @@ use std::test::Fail;
 fn begin_gives_the_layout_back(rt: HostRuntime) -> Result<(), Fail> {
     let mut short = [7u8; 7];
     let mut image = [7u8; 8];
-    match Making::begin(AnyPacking::named("v410", 2, 1, 10)?, &mut short) {
-        Ok(_) => Err(Fail::new("seven bytes are too few")),
-        Err(declined) => {
-            assert_eq!(rt; declined.fault.number(), 11);
-            assert_eq!(rt; declined.fault.layer(), 1);
-            assert_eq!(rt; declined.fault.place(), 0);
-            assert_eq!(rt; short, [7; 7]);
-            assert!(rt; Making::begin(declined.back, &mut image).is_ok());
-            assert_eq!(rt; image, [0x00, 0x08, 0x04, 0x80, 0x00, 0x08, 0x04, 0x80]);
-            Ok(())
-        }
-    }
+    let Err(declined) = Making::begin(AnyPacking::named("v410", 2, 1, 10)?, &mut short) else {
+        return Err(Fail::new("seven bytes are too few"));
+    };
+    assert_eq!(rt; declined.fault.number(), 11);
+    assert_eq!(rt; declined.fault.layer(), 1);
+    assert_eq!(rt; declined.fault.place(), 0);
+    assert_eq!(rt; short, [7; 7]);
+    assert!(rt; Making::begin(declined.back, &mut image).is_ok());
+    assert_eq!(rt; image, [0x00, 0x08, 0x04, 0x80, 0x00, 0x08, 0x04, 0x80]);
+    Ok(())
 }
 
 #[test]
@@ -67,6 +66,6 @@ fn restart_begins_again(rt: HostRuntime) -> Result<(), Fail> {
     assert_eq!(rt; frame.restart(&mut image), Ok(0));
     assert_eq!(rt; image, blank);
     assert_eq!(rt; frame.lay(&mut image, &[1, 2, 3, 4]), Ok(1));
-    assert_eq!(rt; frame.take(&image, site(Component::Luma, 1, 1)), Ok(2));
+    assert_eq!(rt; frame.take(&image, Site::at(Component::Luma, 1, 1)), Ok(2));
     Ok(())
 }

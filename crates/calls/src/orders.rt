@@ -1,6 +1,7 @@
 // Lines come in the order of time: an odd height with the bottom field first.
-use crate::given::{site, small};
+use crate::given::small;
 use samples::component::Component;
+use samples::site::Site;
 use std::test::Fail;
 
 const FIRST: [u16; 4] = [21, 22, 23, 24];
@@ -18,10 +19,10 @@ fn field_by_field(rt: HostRuntime) -> Result<(), Fail> {
     assert_eq!(rt; frame.lay(&mut image, &SECOND), Ok(2));
     assert_eq!(rt; frame.lay(&mut image, &THIRD), Ok(3));
     assert_eq!(rt; image, [23, 21, 24, 22, 33, 31, 34, 32, 43, 41, 44, 42]);
-    assert_eq!(rt; frame.take(&image, site(Component::Luma, 0, 1)), Ok(21));
-    assert_eq!(rt; frame.take(&image, site(Component::Luma, 1, 0)), Ok(32));
-    assert_eq!(rt; frame.take(&image, site(Component::Cb, 0, 2)), Ok(43));
-    assert_eq!(rt; frame.take(&image, site(Component::Cr, 0, 1)), Ok(24));
+    assert_eq!(rt; frame.take(&image, Site::at(Component::Luma, 0, 1)), Ok(21));
+    assert_eq!(rt; frame.take(&image, Site::at(Component::Luma, 1, 0)), Ok(32));
+    assert_eq!(rt; frame.take(&image, Site::at(Component::Cb, 0, 2)), Ok(43));
+    assert_eq!(rt; frame.take(&image, Site::at(Component::Cr, 0, 1)), Ok(24));
     Ok(())
 }
 

@@ -11,14 +11,6 @@ use samples::shape::{Chroma, TimeKind};
 use samples::site::Site;
 use std::test::Fail;
 
-fn site_at(component: Component, column: u32, line: u32) -> Site {
-    Site {
-        component,
-        column,
-        line: PictureLine(line),
-    }
-}
-
 // Plane words of 2 by 3, bottom field first: lines 0, 1, 2 are stored at 1, 0, 2.
 #[test]
 fn plane_words_by_field(rt: HostRuntime) -> Result<(), Fail> {
@@ -26,12 +18,12 @@ fn plane_words_by_field(rt: HostRuntime) -> Result<(), Fail> {
     let layout = AnyLayout::OrderedPlanes(Ordered::over(planes, Order::BottomThenTop));
     assert!(rt; matches!(layout.shape().time, TimeKind::BottomFirst));
     assert_eq!(rt; layout.length(), 48);
-    assert_eq!(rt; layout.locate(site_at(Component::Luma, 0, 0))?, 64);
-    assert_eq!(rt; layout.locate(site_at(Component::Luma, 1, 1))?, 32);
-    assert_eq!(rt; layout.locate(site_at(Component::Luma, 0, 2))?, 128);
-    assert_eq!(rt; layout.locate(site_at(Component::Cb, 0, 0))?, 224);
-    assert_eq!(rt; layout.locate(site_at(Component::Cr, 0, 1))?, 288);
-    assert_eq!(rt; layout.owner(9), Some(site_at(Component::Luma, 0, 1)));
+    assert_eq!(rt; layout.locate(Site::at(Component::Luma, 0, 0))?, 64);
+    assert_eq!(rt; layout.locate(Site::at(Component::Luma, 1, 1))?, 32);
+    assert_eq!(rt; layout.locate(Site::at(Component::Luma, 0, 2))?, 128);
+    assert_eq!(rt; layout.locate(Site::at(Component::Cb, 0, 0))?, 224);
+    assert_eq!(rt; layout.locate(Site::at(Component::Cr, 0, 1))?, 288);
+    assert_eq!(rt; layout.owner(9), Some(Site::at(Component::Luma, 0, 1)));
     assert_eq!(rt; layout.owner(10), None);
     assert!(rt; !layout.fixed(30) && layout.fixed(222) && layout.fixed(319));
     assert_eq!(rt; layout.fixed_byte(27), 0x40);
