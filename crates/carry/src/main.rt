@@ -7,8 +7,9 @@ mod show;
 use layout::interface::{Layout, Shaped};
 use level::{blacken, rest_line};
 use show::Carrying;
+use showing::head::Head;
 use showing::recorder::Recorder;
-use showing::steps::{self, Steps};
+use showing::steps::Steps;
 
 // A black image, and what it holds.
 fn black(rt: &HostRuntime, layout: &Recorder) -> anyhow::Result<()> {
@@ -17,7 +18,8 @@ fn black(rt: &HostRuntime, layout: &Recorder) -> anyhow::Result<()> {
     let mut image = vec![in rt.alloc(); 0u8; layout.length() as usize]?;
     layout.wipe(image.as_mut_slice())?;
     blacken(layout, image.as_mut_slice(), codes.as_slice())?;
-    steps::bytes(rt, "first group", image.as_slice())?;
+    let head = Head::of(image.as_slice());
+    println!(rt; "   first group:{head}")?;
     show::levels(rt, layout, image.as_slice())
 }
 

@@ -43,9 +43,8 @@ fn take_line<L: Layout>(frame: &Making<L>, image: &[u8], line: PictureLine, code
         Component::Cr,
         Component::Alpha,
     ] {
-        let first = shape.first_of(component) as usize;
-        let end = first + shape.columns(component) as usize;
-        take_row(frame, image, component, line, &mut codes[first..end]);
+        let places = shape.places(component);
+        take_row(frame, image, component, line, &mut codes[places]);
     }
 }
 

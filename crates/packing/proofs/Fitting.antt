@@ -1,36 +1,24 @@
 -- What the functions compute on the way fits, and is what the layout means.
-use Rattle.std.specs.Prelude.{◌≡◌, ℕ, zero, suc, ◌+◌, ◌*◌, ◌/◌, ◌%◌, ◌^◌, ◌<◌, ◌≤◌, Bool, true, false, cond, Some, slice_index}
+use Rattle.std.specs.Prelude.{◌≡◌, ℕ, zero, suc, ◌+◌, ◌*◌, ◌/◌, ◌%◌, ◌^◌, ◌<◌, ◌≤◌, true, Some, slice_index}
 use Rattle.std.proofs.Math.Path.{refl, ap}
-use Rattle.std.proofs.Common.{◌∙◌, zero-le, zero-mul, div-le_self, arith}
+use Rattle.std.proofs.Common.{◌∙◌, zero-mul, div-le_self, arith}
 use Rattle.std.proofs.Math.Nat.{div-eq_of_lt, mul_left_comm}
 use Rattle.std.proofs.lemmas.Nat.{mod_below, mul-le}
 use Rattle.samples.specs.declared.bounds.Size.{Size}
 use Rattle.samples.specs.declared.component.Component.{Component}
 use Rattle.samples.specs.declared.component.Component.TheVariants.{Luma, Cb, Cr, Alpha}
-use Rattle.samples.specs.declared.shape.Chroma.{Chroma}
-use Rattle.samples.specs.declared.shape.Chroma.TheVariants.{Half, Full}
 use Rattle.samples.specs.declared.site.Site.{Site}
+use Rattle.samples.specs.Fitting.{share_le}
 use Rattle.samples.specs.Parts.{before}
-use Rattle.samples.specs.Shapes.{chroma_columns, has}
+use Rattle.samples.specs.Shapes.{has}
 use Rattle.formats.specs.declared.format.Figures.{Figures}
 use Rattle.formats.specs.Packing.{Packing, Proper, figures_of, runs_of, runs, start_in, holder}
 use Rattle.formats.proofs.Table.{held_run}
 use Rattle.packing.specs.Packed.{shape_of, start_of}
 use Rattle.packing.specs.Groups.{lawful}
 
-few : (ch : Chroma) (px : ℕ) → px ≤ 16 → chroma_columns ch px ≤ 16
-few Half px l = omega arith
-few Full px l = l
-
-few_alpha : (a : Bool) (px : ℕ) → px ≤ 16 → cond a px 0 ≤ 16
-few_alpha true px l = l
-few_alpha false px l = zero-le
-
 few_runs : (p : Packing) → Proper p → (k : Component) → runs p k ≤ 16
-few_runs p ok Luma = ok.few_pixels
-few_runs p ok Cb = few p.chroma p.pixels ok.few_pixels
-few_runs p ok Cr = few p.chroma p.pixels ok.few_pixels
-few_runs p ok Alpha = few_alpha p.alpha p.pixels ok.few_pixels
+few_runs p ok k = omega (arith, share_le p.pixels p.chroma p.alpha k, ok.few_pixels)
 
 -- no start overflows
 pub start_fits : (p : Packing) → Proper p → (z : Size) (x : Site) → has (shape_of p z) x ≡ true → start_of p z x < 2 ^ 32

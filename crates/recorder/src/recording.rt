@@ -3,7 +3,7 @@ use frame::making::Making;
 use layout::interface::{Layout, Shaped};
 use samples::shape::Shape;
 use samples::site::Site;
-use showing::steps;
+use showing::head::Head;
 use std::io;
 
 #[derive(Drop)]
@@ -28,7 +28,8 @@ impl<'a, L: Layout + Drop> Recording<'a, L> {
 
     // Shows the first bytes of the image.
     pub(crate) fn bytes(&self, name: &str) -> io::Result<()> {
-        steps::bytes(self.rt, name, self.image)
+        let head = Head::of(self.image);
+        println!(self.rt; "   {name}:{head}")
     }
 
     // Shows the codes of some sites.

@@ -78,10 +78,7 @@ impl TimeKind {
         ensures { result ≡ time_line_of self height line }
     {
         let s = line.0;
-        if s >= height {
-            return None;
-        }
-        let t = match self {
+        (s < height).then(|| TimeLine(match self {
             TimeKind::Progressive => s,
             TimeKind::TopFirst => {
                 if s % 2 == 0 {
@@ -97,8 +94,7 @@ impl TimeKind {
                     (s - 1) / 2
                 }
             }
-        };
-        Some(TimeLine(t))
+        }))
     }
 
     // The picture line that comes at a time, if a picture of that height has it.
@@ -106,10 +102,7 @@ impl TimeKind {
         ensures { result ≡ picture_line_of self height line }
     {
         let t = line.0;
-        if t >= height {
-            return None;
-        }
-        let s = match self {
+        (t < height).then(|| PictureLine(match self {
             TimeKind::Progressive => t,
             TimeKind::TopFirst => {
                 let top = height - height / 2;
@@ -123,8 +116,7 @@ impl TimeKind {
                     2 * (t - bottom)
                 }
             }
-        };
-        Some(PictureLine(s))
+        }))
     }
 }
 

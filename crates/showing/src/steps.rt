@@ -127,12 +127,3 @@ impl<'a, R: Print, W: Words> Steps<'a, R, W> {
         }
     }
 }
-
-// The first 16 bytes of an image.
-pub fn bytes<R: Print>(rt: &R, name: &str, image: &[u8]) -> io::Result<()> {
-    print!(rt; "   {name}:")?;
-    for byte in image.iter().take(16) {
-        print!(rt; " {byte:02x}")?;
-    }
-    println!(rt; "")
-}

@@ -1,5 +1,5 @@
 use Rattle.std.proofs.Common.{◌≡◌, ℕ, ◌+◌, ◌-◌, ◌<◌, ◌≤◌, length, get_or, sym, ap, ◌∙◌, zero-add, arith}
-use borrow.Rule.Slice.PartMut.{put_mid}
+use Rattle.std.specs.declared.ops.Range.{Range}
 use Rattle.std.proofs.lemmas.List.FromFn.{fill_by_all, get_or-map-range_with_len, length-map-range_with_len}
 use Rattle.samples.specs.declared.component.Component.{Component}
 use Rattle.samples.specs.declared.component.Component.TheVariants.{Luma}
@@ -22,12 +22,14 @@ loop-component-preserved g c i h =
     let l : ℕ = c.args.line.0 in
     let codes = c.loop-component.codes in
     let row = c.take_row.new.row in
-    let a : ℕ = c.first_of-first.result in
-    let n : ℕ = c.columns.result in
+    let a : ℕ = c.places-places.result.start in
+    let n : ℕ = c.places-places.result.end - a in
     let low : k < 4 = c.loop-component-test.true in
     let taken : row ≡ row_taken m f item l = c.take_row.ensures in
-    let first : a ≡ first_of t item = c.first_of-first.ensures ∙ ap (λ z. first_of z item) shape in
-    let count : n ≡ columns t item = c.columns.ensures ∙ ap (λ z. columns z item) shape in
+    let first : a ≡ first_of t item = ap (λ (z : Range ℕ). z.start) c.places-places.ensures ∙ ap (λ z. first_of z item) shape in
+    let last : c.places-places.result.end ≡ first_of t item + columns t item =
+    ap (λ (z : Range ℕ). z.end) c.places-places.ensures ∙ ap (λ z. first_of z item + columns z item) shape in
+    let count : n ≡ columns t item = omega (arith, first, last) in
     let long : length row ≡ n =
     ap length taken ∙ length-map-range_with_len (λ z. code_taken m f (site_of item z l)) 0 (columns t item) ∙ sym count in
     let fits : a + n ≤ length codes = omega (arith, first, count, part_fits t item, c.requires, c.loop-component.auto.codes) in
@@ -37,9 +39,7 @@ loop-component-preserved g c i h =
     λ j p. let q : j < columns t item = omega (arith, count) in
     ap (λ z. get_or z j 0) taken ∙ get_or-map-range_with_len (λ z. code_taken m f (site_of item z l)) 0 (columns t item) j j 0 q (zero-add j)
     ∙ ap (code_taken m f) (site_here t l item j q) ∙ ap (λ z. code_taken m f (site_at t l (z + j))) (sym first) in
-    let part : a + n - a ≡ n = omega arith in
-    ap (λ z. get_or (put_mid a z codes row) i 0) part
-    ∙ part_filled (λ j. code_taken m f (site_at t l j)) codes row a n fits long old new i (omega (arith, first, count, filled_more t k Luma low))
+    part_filled (λ j. code_taken m f (site_at t l j)) codes row a n fits long old new i (omega (arith, first, count, filled_more t k Luma low))
 
 pub returns : goal.returns
 returns g c =
