@@ -6,10 +6,9 @@ mod show;
 
 use layout::interface::{Layout, Shaped};
 use level::{blacken, rest_line};
-use show::Carrying;
 use showing::head::Head;
 use showing::recorder::Recorder;
-use showing::steps::Steps;
+use showing::steps::{Steps, Words};
 
 // A black image, and what it holds.
 fn black(rt: &HostRuntime, layout: &Recorder) -> anyhow::Result<()> {
@@ -27,7 +26,7 @@ fn run(rt: &HostRuntime) -> anyhow::Result<()> {
     let steps = Steps {
         rt,
         name: "carry",
-        words: Carrying,
+        words: Words::BitFirst,
     };
     black(rt, &steps.begin()?)
 }

@@ -4,6 +4,7 @@
 pub mod format;
 pub mod kind;
 pub mod laws;
+pub mod tabled;
 pub mod types;
 pub mod v216;
 pub mod wide;

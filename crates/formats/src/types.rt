@@ -3,7 +3,7 @@ ghost use Rattle.std.specs.Prelude.{refl};
 ghost use Rattle.formats.specs.Formats.{p_2vuy, p_v308, p_v408, p_v410, p_v210};
 ghost use Rattle.formats.specs.Six.{proper_2vuy, proper_v308, proper_v408, proper_v410, proper_v210, filled_2vuy, filled_v308, filled_v408, filled_v410, filled_v210};
 
-use crate::format::Format;
+use crate::tabled::Tabled;
 use samples::bounds::Bits;
 use samples::shape::Chroma;
 
@@ -15,7 +15,7 @@ const TEN: Bits = Bits { count: 10 };
 #[derive(Clone, Copy)]
 pub struct TwoVuy;
 
-impl Format for TwoVuy {
+impl Tabled for TwoVuy {
     const GROUP_PIXELS: u32 = 2;
 
     const GROUP_BYTES: u32 = 4;
@@ -61,7 +61,7 @@ impl Format for TwoVuy {
 #[derive(Clone, Copy)]
 pub struct V308;
 
-impl Format for V308 {
+impl Tabled for V308 {
     const GROUP_PIXELS: u32 = 1;
 
     const GROUP_BYTES: u32 = 3;
@@ -107,7 +107,7 @@ impl Format for V308 {
 #[derive(Clone, Copy)]
 pub struct V408;
 
-impl Format for V408 {
+impl Tabled for V408 {
     const GROUP_PIXELS: u32 = 1;
 
     const GROUP_BYTES: u32 = 4;
@@ -153,7 +153,7 @@ impl Format for V408 {
 #[derive(Clone, Copy)]
 pub struct V410;
 
-impl Format for V410 {
+impl Tabled for V410 {
     const GROUP_PIXELS: u32 = 1;
 
     const GROUP_BYTES: u32 = 4;
@@ -199,7 +199,7 @@ impl Format for V410 {
 #[derive(Clone, Copy)]
 pub struct V210;
 
-impl Format for V210 {
+impl Tabled for V210 {
     const GROUP_PIXELS: u32 = 6;
 
     const GROUP_BYTES: u32 = 16;

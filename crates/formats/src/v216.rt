@@ -5,7 +5,7 @@ ghost use Rattle.formats.specs.Formats.{p_v216};
 ghost use Rattle.formats.specs.Made.{plain_v216, v216_made};
 ghost use Rattle.formats.specs.Six.{proper_v216, filled_v216};
 
-use crate::format::Format;
+use crate::tabled::Tabled;
 use crate::wide::V216;
 use samples::bounds::Bits;
 use samples::fault::{Fault, Rule};
@@ -26,7 +26,7 @@ impl TryFrom<u32> for V216 {
     }
 }
 
-impl Format for V216 {
+impl Tabled for V216 {
     const GROUP_PIXELS: u32 = 2;
 
     const GROUP_BYTES: u32 = 8;

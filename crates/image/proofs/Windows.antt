@@ -1,12 +1,12 @@
 -- The window of four bytes that holds a code. Assumes nothing.
-use Rattle.std.proofs.Common.{◌≡◌, ℕ, ◌+◌, ◌-◌, ◌*◌, ◌/◌, ◌%◌, ◌^◌, ◌<◌, ◌≤◌, Bool, true, false, cond, ◌⊎◌, List, [], ◌∷◌, ◌++◌, map, length, get_or, take, drop, min, zero, suc, refl, sym, ap, ◌∙◌, inl, inr, ⊎_elim, add-zero, mod-lt, mod-eq_of_lt, mul_assoc, add-mul, add_comm, zero-add, div-one, arith, rules, pow_pos, pow-add, w64}
+use Rattle.std.proofs.Common.{◌≡◌, ℕ, ◌+◌, ◌-◌, ◌*◌, ◌/◌, ◌%◌, ◌^◌, ◌<◌, ◌≤◌, Bool, true, false, cond, ◌⊎◌, List, map, length, get_or, set, take, min, zero, suc, refl, sym, ap, ◌∙◌, inl, inr, ⊎_elim, add-zero, mod-lt, mod-eq_of_lt, mul_assoc, add-mul, add_comm, zero-add, div-one, arith, rules, pow_pos, pow-add, w64}
 use lib.Bits.{bit_or}
 use lib.Pow.{split}
 use Rattle.std.specs.List.{range_with_len}
 use Rattle.std.specs.Int.{to_le_bytes}
-use Rattle.std.proofs.lemmas.Bool.{cases_lt, cond-true, cond-false}
+use Rattle.std.proofs.lemmas.Bool.{cases_lt, cases_eq, cond-true, cond-false}
 use borrow.Rule.Slice.PartMut.{put_mid}
-use Rattle.std.proofs.lemmas.List.{ext_get_or, length-take-le, get_or-take, get_or-drop, get_or_append_left, get_or-append_right, get_or_past, take_rest, drop_min, places}
+use Rattle.std.proofs.lemmas.List.{ext_get_or, length-set, get_or-set_same, get_or-set_other, length-take-le, get_or-take, places}
 use Rattle.std.proofs.lemmas.Nat.{mul-le, shl_below, pow_below, one_shl, or_shifted}
 use Rattle.std.proofs.lemmas.List.FromFn.{length-map-range_with_len, get_or-map-range_with_len}
 use Rattle.image.specs.Bits.{bit_of, number, bit, code_at, written}
@@ -28,39 +28,18 @@ first_byte image small n i j e =
     ∙ ap (λ z. get_or image i 0 + z * 256) (number_ext n g (λ k. bit image (8 * j + k)) (λ k h. ap (bit image) (omega arith)))
 
 -- four bytes of an image make the code of 32 bits
-pub code_window : (image : List ℕ) → Bytes image → (at : ℕ) (bytes : List ℕ) → ((i : ℕ) → i < 4 → get_or bytes i 0 ≡ get_or image (at + i) 0) → code_at 32 (8 * at) image ≡ get_or bytes 0 0 + get_or bytes 1 0 * 256 + get_or bytes 2 0 * 65536 + get_or bytes 3 0 * 16777216
-code_window image small at bytes e =
+pub four_window : (image : List ℕ) → Bytes image → (at : ℕ) → code_at 32 (8 * at) image ≡ get_or image at 0 + get_or image (at + 1) 0 * 256 + get_or image (at + 2) 0 * 65536 + get_or image (at + 3) 0 * 16777216
+four_window image small at =
     let a = first_byte image small 24 at (at + 1) (omega arith) in
     let b = first_byte image small 16 (at + 1) (at + 2) (omega arith) in
     let c = first_byte image small 8 (at + 2) (at + 3) (omega arith) in
+    omega (arith, a, b, c, byte_is image small (at + 3))
+
+-- and so do four bytes that are those of the image
+pub code_window : (image : List ℕ) → Bytes image → (at : ℕ) (bytes : List ℕ) → ((i : ℕ) → i < 4 → get_or bytes i 0 ≡ get_or image (at + i) 0) → code_at 32 (8 * at) image ≡ get_or bytes 0 0 + get_or bytes 1 0 * 256 + get_or bytes 2 0 * 65536 + get_or bytes 3 0 * 16777216
+code_window image small at bytes e =
     let none : get_or image (at + 0) 0 ≡ get_or image at 0 = ap (λ i. get_or image i 0) (add-zero at) in
-    omega (arith, a, b, c, byte_is image small (at + 3), none, e 0 (omega arith), e 1 (omega arith), e 2 (omega arith), e 3 (omega arith))
-
--- the part of an image from the byte `at` on, or nothing past the end
-pub rest_is : (image : List ℕ) (at m : ℕ) → m ≡ min at (length image) → take (length image - m) (drop m image) ≡ drop at image
-rest_is image at m e = take_rest image m ∙ ap (λ i. drop i image) e ∙ drop_min at image
-
--- ---- near the end
-abbrev pub noughts : List ℕ
-noughts = 0 ∷ (0 ∷ (0 ∷ (0 ∷ [])))
-
-nought : (i : ℕ) → get_or noughts i 0 ≡ 0
-nought zero = refl
-nought (suc zero) = refl
-nought (suc (suc zero)) = refl
-nought (suc (suc (suc zero))) = refl
-nought (suc (suc (suc (suc i)))) = get_or_past noughts (suc (suc (suc (suc i)))) 0 (omega arith)
-
--- noughts follow the bytes of the rest
-pub padded : (image rest : List ℕ) (at i : ℕ) → rest ≡ drop at image → get_or (rest ++ drop (length rest) noughts) i 0 ≡ get_or image (at + i) 0
-padded image rest at i e =
-    let n : ℕ = length rest in
-    let same : get_or rest i 0 ≡ get_or image (at + i) 0 = ap (λ l. get_or l i 0) e ∙ get_or-drop at image i 0 in
-    ⊎_elim
-    (λ (p : i < n). get_or_append_left rest (drop n noughts) 0 i p ∙ same)
-    (λ (p : n ≤ i).
-    get_or-append_right rest (drop n noughts) n i 0 refl p ∙ get_or-drop n noughts (i - n) 0 ∙ nought (n + (i - n)) ∙ sym (get_or_past rest i 0 p) ∙ same)
-    (cases_lt i n)
+    omega (arith, four_window image small at, none, e 0 (omega arith), e 1 (omega arith), e 2 (omega arith), e 3 (omega arith))
 
 -- a code is part of the window that holds it
 pub code_part : (n start : ℕ) (image : List ℕ) → n ≤ 16 → code_at n start image ≡ code_at 32 (8 * (start / 8)) image / 2 ^ (start % 8) % 2 ^ n
@@ -93,6 +72,11 @@ module _ (xs ys : List ℕ) (a k i : ℕ) (long : length ys ≡ k) (fits : a + k
 
   put_above : a + k ≤ i → get_or (put_mid a k xs ys) i 0 ≡ get_or xs i 0
   put_above h = search (rules, places)
+
+-- the low 32 bits of x as bytes, from the byte `at` on
+abbrev pub four : List ℕ → ℕ → ℕ → List ℕ
+four image at x =
+    set (set (set (set image at (x % 256)) (at + 1) (x / 256 % 256)) (at + 2) (x / 65536 % 256)) (at + 3) (x / 16777216 % 256)
 
 module _ (image : List ℕ) (small : Bytes image) (at x : ℕ) where
   -- the bits after the write
@@ -144,6 +128,46 @@ module _ (image : List ℕ) (small : Bytes image) (at x : ℕ) where
       (cases_lt i (a + k)))
       (cases_lt i a)
       ∙ sym (get_or-map-range_with_len G 0 n i i 0 l (zero-add i)))
+
+  four_at : (i : ℕ) → i < length image → get_or (four image at x) i 0 ≡ number 8 (λ k. F (8 * i + k))
+  four_at i h =
+      let a : List ℕ = set image at (x % 256) in
+      let b : List ℕ = set a (at + 1) (x / 256 % 256) in
+      let c : List ℕ = set b (at + 2) (x / 65536 % 256) in
+      let la : length a ≡ length image = length-set image at (x % 256) in
+      let lb : length b ≡ length a = length-set a (at + 1) (x / 256 % 256) in
+      let lc : length c ≡ length b = length-set b (at + 2) (x / 65536 % 256) in
+      ⊎_elim
+      (λ (e : i ≡ at + 3). ap (λ z. get_or (four image at x) z 0) e ∙ get_or-set_same c (at + 3) (x / 16777216 % 256) 0 (omega arith) ∙ sym (byte_in 3 i (omega arith) e))
+      (λ (n3 : i ≡ at + 3 → ⊥).
+      get_or-set_other c (at + 3) i (x / 16777216 % 256) 0 n3
+      ∙ ⊎_elim
+      (λ (e : i ≡ at + 2). ap (λ z. get_or c z 0) e ∙ get_or-set_same b (at + 2) (x / 65536 % 256) 0 (omega arith) ∙ sym (byte_in 2 i (omega arith) e))
+      (λ (n2 : i ≡ at + 2 → ⊥).
+      get_or-set_other b (at + 2) i (x / 65536 % 256) 0 n2
+      ∙ ⊎_elim
+      (λ (e : i ≡ at + 1). ap (λ z. get_or b z 0) e ∙ get_or-set_same a (at + 1) (x / 256 % 256) 0 (omega arith) ∙ sym (byte_in 1 i (omega arith) e))
+      (λ (n1 : i ≡ at + 1 → ⊥).
+      get_or-set_other a (at + 1) i (x / 256 % 256) 0 n1
+      ∙ ⊎_elim
+      (λ (e : i ≡ at). ap (λ z. get_or a z 0) e ∙ get_or-set_same image at (x % 256) 0 (omega arith) ∙ sym (byte_in 0 i (omega arith) (e ∙ sym (add-zero at)) ∙ ap (λ z. z % 256) (div-one x)))
+      (λ (n0 : i ≡ at → ⊥).
+      get_or-set_other image at i (x % 256) 0 n0
+      ∙ sym (byte_out i (⊎_elim (λ (p : i < at). inl p) (λ (p : at ≤ i). inr (omega arith)) (cases_lt i at))))
+      (cases_eq i at))
+      (cases_eq i (at + 1)))
+      (cases_eq i (at + 2)))
+      (cases_eq i (at + 3))
+
+  -- four bytes written are 32 bits written
+  pub written_four : four image at x ≡ written 32 (8 * at) x image
+  unfolding F
+  written_four =
+      let G : ℕ → ℕ = λ i. number 8 (λ k. F (8 * i + k)) in
+      let n : ℕ = length image in
+      let len : length (four image at x) ≡ n = simp length-set in
+      ext_get_or 0 (four image at x) (map G (range_with_len 0 n)) (len ∙ sym (length-map-range_with_len G 0 n))
+      (λ i h. let l : i < n = omega arith in four_at i l ∙ sym (get_or-map-range_with_len G 0 n i i 0 l (zero-add i)))
 
 -- ---- a code put into a window
 abbrev pub joined : ℕ → ℕ → ℕ → ℕ → ℕ

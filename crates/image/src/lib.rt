@@ -1,11 +1,27 @@
 // The bits of an image: bit b is bit b mod 8 (0 the least) of byte floor(b / 8).
 #![tactic(auto)]
 
-ghost use Rattle.std.specs.Prelude.{◌≡◌, ◌+◌, ◌*◌, ◌^◌, ◌<◌, length};
+ghost use Rattle.std.specs.Prelude.{◌≡◌, ◌*◌, ◌^◌, ◌<◌, slice_index, slice_set};
 ghost use Rattle.image.specs.Bits.{code_at, width, written};
 
 #[cfg(test)]
 mod tests;
+
+// The byte at i, or 0 past the end, since a code may run past it.
+fn byte_at(image: &[u8], i: usize) -> u8
+    ensures { result ≡ slice_index image.now i }
+{
+    image.get(i).copied().unwrap_or(0)
+}
+
+// Writes the byte at i; past the end no bit has a place, so nothing is written. With `get_mut` what the image then holds did not prove.
+fn put_byte(image: &mut [u8], i: usize, byte: u8)
+    ensures { image.new ≡ slice_set image.old i byte }
+{
+    if i < image.len() {
+        image[i] = byte;
+    }
+}
 
 // The 32 bits from byte `at` on: one load, but near the end.
 fn window(image: &[u8], at: usize) -> u64
@@ -21,15 +37,18 @@ fn window(image: &[u8], at: usize) -> u64
     }
 }
 
-// The same where bytes are missing: each bit past the end is 0.
+// The same where bytes are missing: each bit past the end is 0. Byte by byte: a copy of a length that varies would be a call of C's memcpy, which who links this part might not have.
 #[cold]
 fn window_at_end(image: &[u8], at: usize) -> u64
-    requires { length image.now < at + 4 }
+    requires { at < 2 ^ 32 }
     ensures { result ≡ code_at 32 (8 * at) image.now }
 {
-    let rest = &image[at.min(image.len())..];
-    let mut bytes = [0; 4];
-    bytes[..rest.len()].copy_from_slice(rest);
+    let bytes = [
+        byte_at(image, at),
+        byte_at(image, at + 1),
+        byte_at(image, at + 2),
+        byte_at(image, at + 3),
+    ];
     u64::from(u32::from_le_bytes(bytes))
 }
 
@@ -48,12 +67,14 @@ fn put_window(image: &mut [u8], at: usize, x: u64)
 // The same where bytes are missing: of what has no place nothing is written.
 #[cold]
 fn put_window_at_end(image: &mut [u8], at: usize, x: u64)
-    requires { length image.old < at + 4 }
+    requires { at < 2 ^ 32 }
     ensures { image.new ≡ written 32 (8 * at) x image.old }
 {
-    let from = at.min(image.len());
-    let count = image.len() - from;
-    image[from..].copy_from_slice(&x.to_le_bytes()[..count]);
+    let bytes = x.to_le_bytes();
+    put_byte(image, at, bytes[0]);
+    put_byte(image, at + 1, bytes[1]);
+    put_byte(image, at + 2, bytes[2]);
+    put_byte(image, at + 3, bytes[3]);
 }
 
 // The code in the `bits` bits from `start` upward: 16 bits at most, each 0 past the end.

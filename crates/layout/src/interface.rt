@@ -76,17 +76,18 @@ pub trait Layout: Shaped {
         Ok(())
     }
 
-    // Reads the codes of one component of a picture line into their places among the line's codes. The part is a type, so that the component is a constant in the loop.
+    // Reads the codes of one component of a picture line into their places among the line's codes. Where the part is a type with a constant, the component is a constant in the loop.
     fn read_part<P: Part>(
         &self,
         image: &[u8],
         line: PictureLine,
+        part: &P,
         codes: &mut [u16],
     ) -> Result<(), Fault>
         ensures answer { result ≡ line_answer (meaning self.now) image.now line.0 codes.old }
-        ensures codes { codes.new ≡ part_read (meaning self.now) image.now line.0 P.Part.COMPONENT codes.old }
+        ensures codes { codes.new ≡ part_read (meaning self.now) image.now line.0 (P.Part.which part.now) codes.old }
     {
-        let component = P::COMPONENT;
+        let component = part.component();
         let shape = self.shape();
         judge_line(image.len(), self.length(), shape, line, codes.len())?;
         for (column, code) in codes[shape.places(component)].iter_mut().enumerate() {
@@ -105,12 +106,13 @@ pub trait Layout: Shaped {
         &self,
         image: &mut [u8],
         line: PictureLine,
+        part: &P,
         codes: &[u16],
     ) -> Result<(), Fault>
         ensures answer { result ≡ line_answer (meaning self.now) image.old line.0 codes.now }
-        ensures image { image.new ≡ part_written (meaning self.now) image.old line.0 P.Part.COMPONENT codes.now }
+        ensures image { image.new ≡ part_written (meaning self.now) image.old line.0 (P.Part.which part.now) codes.now }
     {
-        let component = P::COMPONENT;
+        let component = part.component();
         let shape = self.shape();
         judge_line(image.len(), self.length(), shape, line, codes.len())?;
         for (column, code) in codes[shape.places(component)].iter().enumerate() {
@@ -129,10 +131,10 @@ pub trait Layout: Shaped {
         ensures answer { result ≡ line_answer (meaning self.now) image.now line.0 codes.old }
         ensures codes { codes.new ≡ line_read (meaning self.now) image.now line.0 codes.old }
     {
-        self.read_part::<LumaPart>(image, line, codes)?;
-        self.read_part::<CbPart>(image, line, codes)?;
-        self.read_part::<CrPart>(image, line, codes)?;
-        self.read_part::<AlphaPart>(image, line, codes)
+        self.read_part(image, line, &LumaPart, codes)?;
+        self.read_part(image, line, &CbPart, codes)?;
+        self.read_part(image, line, &CrPart, codes)?;
+        self.read_part(image, line, &AlphaPart, codes)
     }
 
     // Writes the codes of a picture line: of each code the low n bits, and no bit beside their runs.
@@ -140,10 +142,10 @@ pub trait Layout: Shaped {
         ensures answer { result ≡ line_answer (meaning self.now) image.old line.0 codes.now }
         ensures image { image.new ≡ line_written (meaning self.now) image.old line.0 codes.now }
     {
-        self.write_part::<LumaPart>(image, line, codes)?;
-        self.write_part::<CbPart>(image, line, codes)?;
-        self.write_part::<CrPart>(image, line, codes)?;
-        self.write_part::<AlphaPart>(image, line, codes)
+        self.write_part(image, line, &LumaPart, codes)?;
+        self.write_part(image, line, &CbPart, codes)?;
+        self.write_part(image, line, &CrPart, codes)?;
+        self.write_part(image, line, &AlphaPart, codes)
     }
 
     ghost lawful: { (x : Self) → Lawful (meaning x) };

@@ -1,5 +1,6 @@
-// Components that are known as a program is compiled, so that a loop over the columns of one has it as a constant.
-// Types, since a const parameter takes no enum, and with a plain parameter the loop divides by a number that it looks up for each code: laying took 86 ms against 61.
+// Components that are known as a program is compiled, so that a loop over the columns of one has it as a constant; or one that is chosen as it runs.
+// Constants of types, since a const parameter takes no enum, and with a plain parameter the loop divides by a number that it looks up for each code: laying took 86 ms against 61.
+ghost use Rattle.std.specs.Prelude.{◌≡◌};
 ghost use Rattle.samples.specs.declared.component.Component.{Component as TheComponent};
 ghost use Rattle.samples.specs.declared.component.Component.TheVariants.{Luma, Cb, Cr, Alpha};
 
@@ -7,9 +8,25 @@ use samples::component::Component;
 
 // Whatever stands for one component.
 pub trait Part {
+    ghost which: { Self → TheComponent };
+
+    fn component(&self) -> Component
+        ensures { result ≡ which self.now };
+}
+
+// A part that is one component, as a constant.
+pub trait OnePart {
     ghost COMPONENT: { TheComponent };
 
     const COMPONENT: Component;
+}
+
+impl<P: OnePart> Part for P {
+    ghost which = { λ _. P.OnePart.COMPONENT };
+
+    fn component(&self) -> Component {
+        P::COMPONENT
+    }
 }
 
 #[derive(Clone, Copy)]
@@ -24,25 +41,25 @@ pub struct CrPart;
 #[derive(Clone, Copy)]
 pub struct AlphaPart;
 
-impl Part for LumaPart {
+impl OnePart for LumaPart {
     ghost COMPONENT = { Luma };
 
     const COMPONENT: Component = Component::Luma;
 }
 
-impl Part for CbPart {
+impl OnePart for CbPart {
     ghost COMPONENT = { Cb };
 
     const COMPONENT: Component = Component::Cb;
 }
 
-impl Part for CrPart {
+impl OnePart for CrPart {
     ghost COMPONENT = { Cr };
 
     const COMPONENT: Component = Component::Cr;
 }
 
-impl Part for AlphaPart {
+impl OnePart for AlphaPart {
     ghost COMPONENT = { Alpha };
 
     const COMPONENT: Component = Component::Alpha;

@@ -17,7 +17,7 @@ use Rattle.formats.proofs.Table.{held_run}
 use Rattle.packing.specs.Packed.{shape_of, start_of}
 use Rattle.packing.specs.Groups.{lawful}
 
-few_runs : (p : Packing) → Proper p → (k : Component) → runs p k ≤ 16
+pub few_runs : (p : Packing) → Proper p → (k : Component) → runs p k ≤ 16
 few_runs p ok k = omega (arith, share_le p.pixels p.chroma p.alpha k, ok.few_pixels)
 
 -- no start overflows

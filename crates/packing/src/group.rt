@@ -1,6 +1,5 @@
 // A group of runs: how many each component has, and whose a bit is.
 ghost use Rattle.std.specs.Prelude.{◌≡◌, ◌≤◌};
-ghost use Rattle.std.specs.List.{position};
 ghost use Rattle.formats.specs.Packing.{figures_of, runs_of, covers, holder};
 ghost use Rattle.packing.specs.Counting.{runs_fit};
 
@@ -44,18 +43,16 @@ fn covers_bit(bits: u32, bit: u32, start: u32) -> bool
     start <= bit && bit - start < bits
 }
 
-// The place in a table of the first run of n bits that holds a bit.
-fn place_of(starts: &[u32], bits: u32, bit: u32) -> Option<usize>
-    ensures { result ≡ position (covers bits bit) starts.now }
-{
-    starts
-        .iter()
-        .position(|&start| covers_bit(bits, bit, start))
-}
-
-// The number of the run that holds a bit of the group.
+// The number of the run that holds a bit of the group. Runs are counted: a type need not have a table that could be gone over.
 pub(crate) fn holder_of<F: Format>(format: &F, bit: u32) -> Option<u32>
     ensures { result ≡ holder (F.Format.packing format.now) bit }
 {
-    place_of(format.starts(), format.bits().count, bit).map(|place| place as u32)
+    let group = Group::of(format);
+    let bits = group.figures.bits.count;
+    for number in 0..group.whole() {
+        if covers_bit(bits, bit, format.start(number)) {
+            return Some(number);
+        }
+    }
+    None
 }

@@ -4,10 +4,10 @@ ghost use Rattle.planes.specs.Lawful.{planes_lawful};
 ghost use Rattle.std.proofs.Common.{rules};
 
 use crate::Planes;
-use image::{read_code, write_code};
 use layout::interface::{Layout, Shaped};
 use layout::judge::judge_line;
 use layout::part::Part;
+use samples::component::Component;
 use samples::fault::{Fault, Rule};
 use samples::lines::PictureLine;
 use samples::parts::Parts;
@@ -70,20 +70,15 @@ impl Layout for Planes {
         (self.blank(at / 4) >> 24) as u8
     }
 
-    // The words of a component follow one another, so a running position finds them: a code costs one sum, and no site is sought.
     fn read_part<P: Part>(
         &self,
         image: &[u8],
         line: PictureLine,
+        part: &P,
         codes: &mut [u16],
     ) -> Result<(), Fault> {
-        let component = P::COMPONENT;
         judge_line(image.len(), self.length(), self.shape, line, codes.len())?;
-        let mut from = self.run_start(line, component);
-        for code in codes[self.shape.places(component)].iter_mut() {
-            *code = read_code(image, from, self.shape.bits.count);
-            from += 32;
-        }
+        self.read_plane(image, line, part.component(), codes);
         Ok(())
     }
 
@@ -91,15 +86,30 @@ impl Layout for Planes {
         &self,
         image: &mut [u8],
         line: PictureLine,
+        part: &P,
         codes: &[u16],
     ) -> Result<(), Fault> {
-        let component = P::COMPONENT;
         judge_line(image.len(), self.length(), self.shape, line, codes.len())?;
-        let mut to = self.run_start(line, component);
-        for code in codes[self.shape.places(component)].iter() {
-            write_code(image, to, self.shape.bits.count, *code);
-            to += 32;
-        }
+        self.write_plane(image, line, part.component(), codes);
+        Ok(())
+    }
+
+    // The line is judged once: part by part it would be four times, a third more instructions on narrow lines.
+    fn read_line(&self, image: &[u8], line: PictureLine, codes: &mut [u16]) -> Result<(), Fault> {
+        judge_line(image.len(), self.length(), self.shape, line, codes.len())?;
+        self.read_plane(image, line, Component::Luma, codes);
+        self.read_plane(image, line, Component::Cb, codes);
+        self.read_plane(image, line, Component::Cr, codes);
+        self.read_plane(image, line, Component::Alpha, codes);
+        Ok(())
+    }
+
+    fn write_line(&self, image: &mut [u8], line: PictureLine, codes: &[u16]) -> Result<(), Fault> {
+        judge_line(image.len(), self.length(), self.shape, line, codes.len())?;
+        self.write_plane(image, line, Component::Luma, codes);
+        self.write_plane(image, line, Component::Cb, codes);
+        self.write_plane(image, line, Component::Cr, codes);
+        self.write_plane(image, line, Component::Alpha, codes);
         Ok(())
     }
 }

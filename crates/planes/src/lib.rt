@@ -4,6 +4,7 @@
 use samples::shape::Shape;
 
 pub mod interface;
+mod lines;
 pub mod make;
 #[cfg(test)]
 mod tests;

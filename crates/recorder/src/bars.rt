@@ -1,5 +1,5 @@
 // A line of colour bars at 10 bits, eight of one width, as a recorder gets it: Y' undershoots where a bar begins.
-ghost use Rattle.std.specs.Prelude.{◌≡◌, ◌<◌, ◌≤◌, map, IfOk};
+ghost use Rattle.std.specs.Prelude.{◌≡◌, ◌<◌, ◌≤◌, map, slice_set, IfOk};
 ghost use Rattle.std.specs.List.{range_with_len};
 ghost use Rattle.samples.specs.Lines.{line_count};
 ghost use Rattle.recorder.specs.Bars.{bar_of, bar_code, bar_at};
@@ -76,4 +76,15 @@ pub(crate) fn bars_line(heap: Global, shape: Shape) -> Result<Vec<u16>, AllocErr
             bar_code(shape.columns(site.component), site.component, site.column)
         })
         .collect(heap)
+}
+
+// The same codes but for one, which is reserved.
+pub(crate) fn spoiled(heap: Global, codes: &[u16]) -> Result<Vec<u16>, AllocError>
+    ensures { IfOk result (λ v. v.items ≡ slice_set codes.now 725 1020) }
+{
+    let mut bad = Vec::from_slice(heap, codes)?;
+    if let Some(code) = bad.get_mut(725) {
+        *code = 1020;
+    }
+    Ok(bad)
 }

@@ -50,17 +50,11 @@ pub(crate) fn repair(frame: &mut Frame) -> anyhow::Result<()> {
 }
 
 // What breaks a rule: a line too many, a line with a reserved code, and two codes that have no place.
-pub(crate) fn refuse(frame: &mut Frame, codes: &[u16]) -> anyhow::Result<()> {
+pub(crate) fn refuse(frame: &mut Frame, codes: &[u16], bad: &[u16]) -> anyhow::Result<()> {
     println!(frame.rt; "9. refused, with the image as it was")?;
-    let before = Vec::from_slice(frame.rt.alloc(), frame.image)?;
-    let mut bad = Vec::from_slice(frame.rt.alloc(), codes)?;
-    if let Some(code) = bad.get_mut(725) {
-        *code = 1020;
-    }
     frame.lay("one line more", codes)?;
-    frame.lay("a reserved code at index 725", bad.as_slice())?;
+    frame.lay("a reserved code at index 725", bad)?;
     frame.put(Site::at(Component::Cr, 0, 0), 3)?;
     frame.put(Site::at(Component::Alpha, 0, 0), 940)?;
-    frame.compare(before.as_slice())?;
     Ok(())
 }

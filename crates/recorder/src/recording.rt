@@ -10,7 +10,7 @@ use std::io;
 pub(crate) struct Recording<'a, L> {
     pub(crate) rt: &'a HostRuntime,
     frame: Making<L>,
-    pub(crate) image: &'a mut [u8],
+    image: &'a mut [u8],
 }
 
 impl<'a, L: Layout + Drop> Recording<'a, L> {
@@ -64,6 +64,13 @@ impl<'a, L: Layout + Drop> Recording<'a, L> {
         match self.frame.put(self.image, site, code) {
             Ok(old) => println!(self.rt; "   {site}: {code} in place of {old}"),
             Err(fault) => println!(self.rt; "   {site}: put {code}: {fault}"),
+        }
+    }
+
+    // Copies the image, into as many bytes.
+    pub(crate) fn keep(&self, copy: &mut [u8]) {
+        if copy.len() == self.image.len() {
+            copy.copy_from_slice(self.image);
         }
     }
 

@@ -7,3 +7,4 @@ pub mod Shapes
 pub mod Lines
 pub mod Fitting
 pub mod Times
+pub mod Texts

@@ -1,4 +1,7 @@
 // How sizes, code widths, components, chroma, times, sites and faults are written; a fault so that programs can hand it on as any error.
+ghost use Rattle.std.specs.Prelude.{Some};
+ghost use Rattle.samples.specs.Texts.{size_text, bits_text, component_text, chroma_text, time_text, site_text, fault_text};
+
 use crate::bounds::{Bits, Size};
 use crate::component::Component;
 use crate::fault::Fault;
@@ -8,6 +11,8 @@ use std::error::Error;
 use std::fmt;
 
 impl fmt::Display for Size {
+    ghost output = { λ x. Some (size_text x) };
+
     fn fmt<W: fmt::Write>(&self, f: &mut fmt::Formatter<W>) -> fmt::Result {
         let width = self.width;
         let height = self.height;
@@ -16,6 +21,8 @@ impl fmt::Display for Size {
 }
 
 impl fmt::Display for Bits {
+    ghost output = { λ x. Some (bits_text x) };
+
     fn fmt<W: fmt::Write>(&self, f: &mut fmt::Formatter<W>) -> fmt::Result {
         let count = self.count;
         write!(f, "{count} bits")
@@ -23,6 +30,8 @@ impl fmt::Display for Bits {
 }
 
 impl fmt::Display for Component {
+    ghost output = { λ x. Some (component_text x) };
+
     fn fmt<W: fmt::Write>(&self, f: &mut fmt::Formatter<W>) -> fmt::Result {
         f.write_str(match self {
             Component::Luma => "Y'",
@@ -34,6 +43,8 @@ impl fmt::Display for Component {
 }
 
 impl fmt::Display for Chroma {
+    ghost output = { λ x. Some (chroma_text x) };
+
     fn fmt<W: fmt::Write>(&self, f: &mut fmt::Formatter<W>) -> fmt::Result {
         f.write_str(match self {
             Chroma::Half => "half chroma",
@@ -43,6 +54,8 @@ impl fmt::Display for Chroma {
 }
 
 impl fmt::Display for TimeKind {
+    ghost output = { λ x. Some (time_text x) };
+
     fn fmt<W: fmt::Write>(&self, f: &mut fmt::Formatter<W>) -> fmt::Result {
         f.write_str(match self {
             TimeKind::Progressive => "progressive",
@@ -53,6 +66,8 @@ impl fmt::Display for TimeKind {
 }
 
 impl fmt::Display for Site {
+    ghost output = { λ x. Some (site_text x) };
+
     fn fmt<W: fmt::Write>(&self, f: &mut fmt::Formatter<W>) -> fmt::Result {
         let component = self.component;
         let column = self.column;
@@ -62,6 +77,8 @@ impl fmt::Display for Site {
 }
 
 impl fmt::Display for Fault {
+    ghost output = { λ x. Some (fault_text x) };
+
     fn fmt<W: fmt::Write>(&self, f: &mut fmt::Formatter<W>) -> fmt::Result {
         let number = self.number();
         let layer = self.layer();

@@ -1,5 +1,6 @@
 // How an image begins.
-ghost use Rattle.std.specs.Prelude.{◌≡◌, take};
+ghost use Rattle.std.specs.Prelude.{◌≡◌, take, Some};
+ghost use Rattle.showing.specs.Heads.{bytes_text};
 
 use std::fmt;
 
@@ -21,6 +22,8 @@ impl<'a> Head<'a> {
 }
 
 impl<'a> fmt::Display for Head<'a> {
+    ghost output = { λ head. Some (bytes_text head.bytes.now) };
+
     fn fmt<W: fmt::Write>(&self, f: &mut fmt::Formatter<W>) -> fmt::Result {
         for byte in self.bytes {
             write!(f, " {byte:02x}")?;

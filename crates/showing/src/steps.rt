@@ -9,16 +9,13 @@ use samples::shape::Shape;
 use samples::site::Site;
 use std::io;
 
-// How a program words what it shows.
-pub trait Words {
-    // The kinds of a shape, in an order of the program's own.
-    fn kinds<R: Print>(&self, rt: &R, shape: Shape) -> io::Result<()>;
-
-    // Where a site starts.
-    fn starts<R: Print>(&self, rt: &R, site: Site, bit: u32) -> io::Result<()>;
-
-    // Whose a bit is.
-    fn owns<R: Print>(&self, rt: &R, site: Site, bit: u32) -> io::Result<()>;
+// In which words a program shows a layout. No trait: a public function that prints has no clause of its own.
+#[derive(Clone, Copy)]
+pub enum Words {
+    // The chroma before the width of codes, and a bit before its site.
+    BitFirst,
+    // The width of codes before the chroma, and a site before its bits.
+    SiteFirst,
 }
 
 // How a text says whether there is an A: a flag has no Display of its own.
@@ -30,13 +27,13 @@ pub fn alpha(shape: Shape) -> &'static str
 
 // A program by its runtime, its name and its words.
 #[derive(Drop)]
-pub struct Steps<'a, R, W> {
+pub struct Steps<'a, R> {
     pub rt: &'a R,
     pub name: &'a str,
-    pub words: W,
+    pub words: Words,
 }
 
-impl<'a, R: Print, W: Words> Steps<'a, R, W> {
+impl<'a, R: Print> Steps<'a, R> {
     // Shows the first five steps, and gives the layout to go on with.
     pub fn begin(&self) -> anyhow::Result<Recorder>
         ensures { IfOk result (λ layout. plain_layout layout ≡ recorded) }
@@ -67,10 +64,23 @@ impl<'a, R: Print, W: Words> Steps<'a, R, W> {
 
     fn shape(&self, shape: Shape) -> io::Result<()> {
         let size = shape.size;
+        let bits = shape.bits;
+        let chroma = shape.chroma;
+        let alpha = alpha(shape);
+        let time = shape.time;
         let count = shape.line_count();
-        print!(self.rt; "3. shape: {size}")?;
-        self.words.kinds(self.rt, shape)?;
-        println!(self.rt; "; {count} codes a line")
+        match self.words {
+            Words::BitFirst => {
+                println!(self.rt;
+                    "3. shape: {size}, {chroma}, {alpha}, {bits}, {time}; {count} codes a line"
+                )
+            }
+            Words::SiteFirst => {
+                println!(self.rt;
+                    "3. shape: {size}, {bits}, {chroma}, {alpha}, {time}; {count} codes a line"
+                )
+            }
+        }
     }
 
     // Where the sites stand.
@@ -101,7 +111,10 @@ impl<'a, R: Print, W: Words> Steps<'a, R, W> {
 
     fn start<L: Layout>(&self, layout: &L, site: Site) -> io::Result<()> {
         match layout.locate(site) {
-            Ok(bit) => self.words.starts(self.rt, site, bit),
+            Ok(bit) => match self.words {
+                Words::BitFirst => println!(self.rt; "   {site} starts at bit {bit}"),
+                Words::SiteFirst => println!(self.rt; "   {site}: starts at bit {bit}"),
+            },
             Err(fault) => println!(self.rt; "   {site}: {fault}"),
         }
     }
@@ -119,7 +132,10 @@ impl<'a, R: Print, W: Words> Steps<'a, R, W> {
 
     fn owner<L: Layout>(&self, layout: &L, bit: u32) -> io::Result<()> {
         match layout.owner(bit) {
-            Some(site) => self.words.owns(self.rt, site, bit),
+            Some(site) => match self.words {
+                Words::BitFirst => println!(self.rt; "   bit {bit}: {site}"),
+                Words::SiteFirst => println!(self.rt; "   {site}: owns bit {bit}"),
+            },
             None => {
                 let value = u8::from(layout.fixed(bit));
                 println!(self.rt; "   bit {bit}: nobody's, fixed at {value}")

@@ -10,7 +10,7 @@ returns-clause-codes g c =
     let m = g.Self.Layout.meaning x in
     let image = c.args.image.now in
     let line = c.args.line.0 in
-    let component = c.COMPONENT-component.result in
+    let component = c.component-component.result in
     let codes = c.args.codes.now in
     let items = c.loop-column.code-items in
     let shape : c.shape-shape.result ≡ m.shape = c.shape-shape.ensures ∙ sym (g.met.Self.Layout.same x) in
@@ -18,4 +18,4 @@ returns-clause-codes g c =
     part_put m image line component codes told.count items _ _ told.first told.wide (c.loop-column.auto.code-items ∙ told.span)
     (λ k h. c.loop-column.invariant k (omega (arith, told.span, c.loop-column-test.false)))
     ∙ sym (line_passed m image (λ _. codes) (part_in m image line component codes) line (length codes) told.long told.low told.count)
-    ∙ ap (λ k. part_read m image line k codes) c.COMPONENT-component.ensures
+    ∙ ap (λ k. part_read m image line k codes) c.component-component.ensures

@@ -16,7 +16,7 @@ loop-column-init g c =
     let x = c.args.self.now in
     let image = c.args.image.now in
     let small : Bytes image = search rules in
-    part_begun (g.Self.Layout.meaning x) (g.met.Self.Layout.lawful x) image c.args.line.0 c.args.codes.now c.COMPONENT-component.result small
+    part_begun (g.Self.Layout.meaning x) (g.met.Self.Layout.lawful x) image c.args.line.0 c.args.codes.now c.component-component.result small
 
 pub loop-column-preserved : goal.loop-column-preserved
 loop-column-preserved g c =
@@ -24,7 +24,7 @@ loop-column-preserved g c =
     let m = g.Self.Layout.meaning x in
     let image = c.args.image.now in
     let line = c.args.line.0 in
-    let component = c.COMPONENT-component.result in
+    let component = c.component-component.result in
     let codes = c.args.codes.now in
     let column = c.loop-column.column in
     let r = c.places.result in
@@ -43,11 +43,11 @@ returns-clause-image g c =
     let m = g.Self.Layout.meaning x in
     let image = c.args.image.now in
     let line = c.args.line.0 in
-    let component = c.COMPONENT-component.result in
+    let component = c.component-component.result in
     let codes = c.args.codes.now in
     let shape : c.shape-shape.result ≡ m.shape = c.shape-shape.ensures ∙ sym (g.met.Self.Layout.same x) in
     let told = part_passed m (length image) line _ _ codes component _ _ c.length.ensures.value shape (sym c.judge_line.ensures ∙ c.in_ok-judge_line.was) refl c.places.ensures in
     let all : c.loop-column.column ≡ columns m.shape component = omega (arith, told.span, c.loop-column-test.false, c.loop-column.auto.column-end) in
     part_ended m (g.met.Self.Layout.lawful x) image line codes component c.loop-column.image c.loop-column.column all c.loop-column.invariant
     ∙ sym (line_passed m image (λ _. image) (rewritten m (part_laid m.shape line component codes) image) line (length codes) told.long told.low told.count)
-    ∙ ap (λ k. part_written m image line k codes) c.COMPONENT-component.ensures
+    ∙ ap (λ k. part_written m image line k codes) c.component-component.ensures
