@@ -3,7 +3,7 @@ ghost use Rattle.std.specs.Prelude.{◌≡◌, ℕ, Bool};
 ghost use Rattle.samples.specs.declared.shape.Chroma.{Chroma};
 ghost use Rattle.formats.specs.Packing.{Packing, Proper, FillsRows, figures_of};
 
-use crate::format::{Figures, Fixed, Format};
+use crate::format::{Figures, Format};
 use samples::bounds::{Bits, Size};
 use samples::shape::Chroma;
 
@@ -49,14 +49,6 @@ pub trait Tabled {
     ghost fixed: { (x : Self) → figures_of (packing x) ≡ record { pixels = GROUP_PIXELS; bytes = GROUP_BYTES; depth = DEPTH; chroma = CHROMA; alpha = ALPHA; bits = (packing x).bits } };
 
     ghost filled: { (x : Self) → FillsRows (packing x) ROW_GROUPS };
-}
-
-impl<T: Tabled> Fixed for T {
-    const GROUP_PIXELS: u32 = T::GROUP_PIXELS;
-
-    const GROUP_BYTES: u32 = T::GROUP_BYTES;
-
-    const DEPTH: u16 = T::DEPTH;
 }
 
 impl<T: Tabled> Format for T {

@@ -3,6 +3,7 @@ ghost use Rattle.std.specs.Prelude.{refl};
 ghost use Rattle.formats.specs.Formats.{p_2vuy, p_v308, p_v408, p_v410, p_v210};
 ghost use Rattle.formats.specs.Six.{proper_2vuy, proper_v308, proper_v408, proper_v410, proper_v210, filled_2vuy, filled_v308, filled_v408, filled_v410, filled_v210};
 
+use crate::format::Fixed;
 use crate::tabled::Tabled;
 use samples::bounds::Bits;
 use samples::shape::Chroma;
@@ -15,14 +16,22 @@ const TEN: Bits = Bits { count: 10 };
 #[derive(Clone, Copy)]
 pub struct TwoVuy;
 
-impl Tabled for TwoVuy {
+impl Fixed for TwoVuy {
     const GROUP_PIXELS: u32 = 2;
 
     const GROUP_BYTES: u32 = 4;
 
+    const DEPTH: u16 = 24;
+}
+
+impl Tabled for TwoVuy {
+    const GROUP_PIXELS: u32 = <TwoVuy as Fixed>::GROUP_PIXELS;
+
+    const GROUP_BYTES: u32 = <TwoVuy as Fixed>::GROUP_BYTES;
+
     const ROW_GROUPS: u32 = 1;
 
-    const DEPTH: u16 = 24;
+    const DEPTH: u16 = <TwoVuy as Fixed>::DEPTH;
 
     const CHROMA: Chroma = Chroma::Half;
 
@@ -61,14 +70,22 @@ impl Tabled for TwoVuy {
 #[derive(Clone, Copy)]
 pub struct V308;
 
-impl Tabled for V308 {
+impl Fixed for V308 {
     const GROUP_PIXELS: u32 = 1;
 
     const GROUP_BYTES: u32 = 3;
 
+    const DEPTH: u16 = 24;
+}
+
+impl Tabled for V308 {
+    const GROUP_PIXELS: u32 = <V308 as Fixed>::GROUP_PIXELS;
+
+    const GROUP_BYTES: u32 = <V308 as Fixed>::GROUP_BYTES;
+
     const ROW_GROUPS: u32 = 1;
 
-    const DEPTH: u16 = 24;
+    const DEPTH: u16 = <V308 as Fixed>::DEPTH;
 
     const CHROMA: Chroma = Chroma::Full;
 
@@ -107,14 +124,22 @@ impl Tabled for V308 {
 #[derive(Clone, Copy)]
 pub struct V408;
 
-impl Tabled for V408 {
+impl Fixed for V408 {
     const GROUP_PIXELS: u32 = 1;
 
     const GROUP_BYTES: u32 = 4;
 
+    const DEPTH: u16 = 32;
+}
+
+impl Tabled for V408 {
+    const GROUP_PIXELS: u32 = <V408 as Fixed>::GROUP_PIXELS;
+
+    const GROUP_BYTES: u32 = <V408 as Fixed>::GROUP_BYTES;
+
     const ROW_GROUPS: u32 = 1;
 
-    const DEPTH: u16 = 32;
+    const DEPTH: u16 = <V408 as Fixed>::DEPTH;
 
     const CHROMA: Chroma = Chroma::Full;
 
@@ -153,14 +178,22 @@ impl Tabled for V408 {
 #[derive(Clone, Copy)]
 pub struct V410;
 
-impl Tabled for V410 {
+impl Fixed for V410 {
     const GROUP_PIXELS: u32 = 1;
 
     const GROUP_BYTES: u32 = 4;
 
+    const DEPTH: u16 = 24;
+}
+
+impl Tabled for V410 {
+    const GROUP_PIXELS: u32 = <V410 as Fixed>::GROUP_PIXELS;
+
+    const GROUP_BYTES: u32 = <V410 as Fixed>::GROUP_BYTES;
+
     const ROW_GROUPS: u32 = 1;
 
-    const DEPTH: u16 = 24;
+    const DEPTH: u16 = <V410 as Fixed>::DEPTH;
 
     const CHROMA: Chroma = Chroma::Full;
 
@@ -199,14 +232,22 @@ impl Tabled for V410 {
 #[derive(Clone, Copy)]
 pub struct V210;
 
-impl Tabled for V210 {
+impl Fixed for V210 {
     const GROUP_PIXELS: u32 = 6;
 
     const GROUP_BYTES: u32 = 16;
 
+    const DEPTH: u16 = 24;
+}
+
+impl Tabled for V210 {
+    const GROUP_PIXELS: u32 = <V210 as Fixed>::GROUP_PIXELS;
+
+    const GROUP_BYTES: u32 = <V210 as Fixed>::GROUP_BYTES;
+
     const ROW_GROUPS: u32 = 8;
 
-    const DEPTH: u16 = 24;
+    const DEPTH: u16 = <V210 as Fixed>::DEPTH;
 
     const CHROMA: Chroma = Chroma::Half;
 

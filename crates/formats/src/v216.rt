@@ -5,6 +5,7 @@ ghost use Rattle.formats.specs.Formats.{p_v216};
 ghost use Rattle.formats.specs.Made.{plain_v216, v216_made};
 ghost use Rattle.formats.specs.Six.{proper_v216, filled_v216};
 
+use crate::format::Fixed;
 use crate::tabled::Tabled;
 use crate::wide::V216;
 use samples::bounds::Bits;
@@ -26,14 +27,22 @@ impl TryFrom<u32> for V216 {
     }
 }
 
-impl Tabled for V216 {
+impl Fixed for V216 {
     const GROUP_PIXELS: u32 = 2;
 
     const GROUP_BYTES: u32 = 8;
 
+    const DEPTH: u16 = 24;
+}
+
+impl Tabled for V216 {
+    const GROUP_PIXELS: u32 = <V216 as Fixed>::GROUP_PIXELS;
+
+    const GROUP_BYTES: u32 = <V216 as Fixed>::GROUP_BYTES;
+
     const ROW_GROUPS: u32 = 1;
 
-    const DEPTH: u16 = 24;
+    const DEPTH: u16 = <V216 as Fixed>::DEPTH;
 
     const CHROMA: Chroma = Chroma::Half;
 
